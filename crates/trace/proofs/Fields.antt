@@ -1,0 +1,51 @@
+-- Laws of one field: a number that is read from a place on, tested, and gone on from. They hold of every range and of whatever follows.
+use mathlib.Core.Path.{_≡_, refl, sym, ap, subst, _∙_}
+use mathlib.Core.List.{List}
+use mathlib.Core.Bool.{Bool, true, false, not, _&&_, cond}
+use Prim.Native.Nat.{ℕ, suc, _+_, _-_, _≤_, _<_}
+use native.Mathlib.Omega.{arith}
+use lib.ListN.{length, drop, length-drop}
+use borrow.Author.Tests.{le-leb, not-true, not-false}
+use Rattle.terms.specs.declared.Refusal.{Refusal}
+use Rattle.terms.specs.Refusals.{numberOf}
+use Rattle.terms.specs.Ranges.{Range, inRange, block}
+use Rattle.trace.specs.declared.number.Number.{Number}
+use Rattle.trace.specs.declared.number.Number.the-variants as the-number
+use Rattle.trace.specs.Number.{Numeral, Value, Fault, numberAt, topByte, bytesBefore}
+use Rattle.trace.specs.Reading.{Reading, Given, Refused, tested, field}
+use Rattle.trace.specs.Answers.{numberAnswer, faultOf}
+use Rattle.trace.specs.Bounds.{numberLimit}
+use Rattle.trace.proofs.Numbers.{Holds, Bounded, numeral-bounded}
+
+-- a number that was read at a place ends within the bytes
+abbrev pub NumberIn : List ℕ → ℕ → ℕ → ℕ → Type 0
+NumberIn s at v n = Bounded numberLimit (suc bytesBefore) (length s - at) v n
+
+pub number-in : (s : List ℕ) (at : ℕ) → Holds (NumberIn s at) (numberAt s at)
+unfolding numberLimit
+number-in s at =
+    subst (λ (room : ℕ). Holds (Bounded numberLimit (suc bytesBefore) room) (numberAt s at)) (length-drop at s) (numeral-bounded topByte bytesBefore (drop at s))
+
+-- every number is a block
+pub block-any : (v : ℕ) → v < numberLimit → inRange block v ≡ true
+unfolding block numberLimit
+block-any v h = rw (le-leb 0 v (omega arith), le-leb v 4294967295 (omega arith))
+
+pub bounded : (s : List ℕ) (at : ℕ) (a : Number) → numberAnswer a ≡ numberAt s at → (v n : ℕ) → a ≡ the-number.Value v n → NumberIn s at v n
+bounded s at a e v n g = subst (Holds (NumberIn s at)) (sym e ∙ ap numberAnswer g) (number-in s at)
+
+-- ---- the ways out of a field, from the answer of the number reader
+
+module _ {A : Type 0} (range : Range) (s : List ℕ) (at : ℕ) (next : ℕ → ℕ → Reading A) (a : Number) (e : numberAnswer a ≡ numberAt s at) where
+  pub no-number : (refusal why : Refusal) → a ≡ the-number.Refused refusal → why ≡ faultOf a → Refused (numberOf why) at ≡ field range s at next
+  no-number refusal why g f = rw (f, ← e, g)
+
+  module _ (v n : ℕ) (g : a ≡ the-number.Value v n) where
+    pub out-of-range : (t : Bool) → t ≡ inRange range v → not t ≡ true → Refused (numberOf (range .refusal)) at ≡ field range s at next
+    out-of-range t f h = rw (← e, g, ← f, not-true t h)
+
+    pub goes-on : inRange range v ≡ true → field range s at next ≡ next v (at + n)
+    goes-on h = rw (← e, g, h)
+
+    pub passes : (t : Bool) → t ≡ inRange range v → not t ≡ false → field range s at next ≡ next v (at + n)
+    passes t f h = goes-on (sym f ∙ not-false t h)

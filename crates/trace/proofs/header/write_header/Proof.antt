@@ -1,0 +1,19 @@
+-- `trace::header::write_header` meets its contract: each way out is a case of `headerWriting`. Assumes nothing.
+use mathlib.Core.Path.{refl}
+use borrow.Author.Needs.{needs}
+use Rattle.trace.proofs.Writings.{other-edition, other-size, header-spelled, header-written}
+use Rattle.trace.proofs.header.write_header.Statement.{statement}
+use Rattle.trace.proofs.header.write_header.Tie as tie
+
+pub write-header-spec : {M : Type 1} → statement M
+write-header-spec =
+    tie.close
+    (tie.spec
+    (λ c κs. search needs)
+    (λ c. (search other-edition, refl))
+    (λ c κs. search needs)
+    (λ c. (search other-size, refl))
+    (λ c. search needs)
+    (λ c κs. header-spelled _ _ _ _ (c .before .before .before .before .before .is-edition .ensures) (c .before .before .before .before .if1 .left) (c .before .before .before .is-size .ensures) (c .before .before .if2 .left))
+    (λ c. search needs)
+    (λ c. (search header-written, search needs)))

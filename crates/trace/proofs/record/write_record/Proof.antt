@@ -1,0 +1,20 @@
+-- `trace::record::write_record` meets its contract: each way out is a case of `recordWriting`. Assumes nothing.
+use mathlib.Core.Path.{refl}
+use native.Mathlib.Omega.{arith}
+use borrow.Author.Needs.{needs}
+use Rattle.trace.proofs.Writings.{over-volume, other-priority, record-spelled, record-written}
+use Rattle.trace.proofs.record.write_record.Statement.{statement}
+use Rattle.trace.proofs.record.write_record.Tie as tie
+
+pub write-record-spec : {M : Type 1} → statement M
+write-record-spec =
+    tie.close
+    (tie.spec
+    (λ c κs. search needs)
+    (λ c. (search over-volume, refl))
+    (λ c κs. search needs)
+    (λ c. (search other-priority, refl))
+    (λ c. search needs)
+    (λ c κs. record-spelled _ _ _ _ _ (c .before .before .before .before .before .is-volume .ensures) (c .before .before .before .before .if1 .left) (omega arith) (c .before .before .before .is-priority .ensures) (c .before .before .if2 .left))
+    (λ c. search needs)
+    (λ c. (search record-written, search needs)))

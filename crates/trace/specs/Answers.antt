@@ -1,0 +1,37 @@
+-- What each answer of the code says, in the table's numbers and the format's values.
+use Prim.Native.Nat.{ℕ}
+use Rattle.terms.specs.Refusals.{numberOf}
+use Rattle.terms.specs.declared.Refusal.{Refusal}
+use Rattle.terms.specs.declared.Refusal.the-variants.{Form}
+use Rattle.trace.specs.Number as number
+use Rattle.trace.specs.Reading as reading
+use Rattle.trace.specs.Writing as writing
+use Rattle.trace.specs.declared.number.Number.{Number}
+use Rattle.trace.specs.declared.number.Number.the-variants as the-number
+use Rattle.trace.specs.declared.header.Header.{Header}
+use Rattle.trace.specs.declared.header.Header.the-variants as the-header
+use Rattle.trace.specs.declared.record.Record.{Record}
+use Rattle.trace.specs.declared.record.Record.the-variants as the-record
+use Rattle.trace.specs.declared.Written.{Written}
+use Rattle.trace.specs.declared.Written.the-variants as the-written
+
+abbrev pub numberAnswer : Number → number.Numeral
+numberAnswer (the-number.Value v n) = number.Value v n
+numberAnswer (the-number.Refused refusal) = number.Fault refusal
+
+abbrev pub headerAnswer : Header → reading.Reading reading.Header
+headerAnswer (the-header.Accepted e n length) = reading.Given (reading.headerOf e n) length
+headerAnswer (the-header.Refused refusal place) = reading.Refused (numberOf refusal) place
+
+abbrev pub recordAnswer : Record → reading.Reading reading.Read
+recordAnswer (the-record.Read v b p length) = reading.Given (reading.readOf v b p) length
+recordAnswer (the-record.Refused refusal place) = reading.Refused (numberOf refusal) place
+
+abbrev pub writtenAnswer : Written → writing.Writing
+writtenAnswer (the-written.Length n) = writing.Length n
+writtenAnswer (the-written.Refused refusal) = writing.Refused (numberOf refusal)
+
+-- the refusal of what is no number
+abbrev pub faultOf : Number → Refusal
+faultOf (the-number.Value v n) = Form
+faultOf (the-number.Refused refusal) = refusal

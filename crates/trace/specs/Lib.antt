@@ -1,0 +1,7 @@
+pub mod Number
+pub mod Reading
+pub mod Spelling
+pub mod Writing
+pub mod Trace
+pub mod Answers
+pub mod Bounds

@@ -1,0 +1,94 @@
+// A record: volume, block, priority.
+use terms::Refusal;
+use crate::Written;
+use crate::number::Number;
+use crate::number::fault;
+use crate::number::read_number;
+use crate::spelling::write_numbers;
+ghost use mathlib.Core.Path.{_≡_};
+ghost use Prim.Native.Nat.{_+_};
+ghost use lib.ListN.{length, drop};
+ghost use Rattle.trace.specs.Reading.{recordAt, readOf, restStart};
+ghost use Rattle.trace.specs.Spelling.{spellings, readValues};
+ghost use Rattle.trace.specs.Writing.{recordWriting, bufferAfter};
+ghost use Rattle.trace.specs.Answers.{recordAnswer, writtenAnswer};
+
+pub enum Record {
+    Read {
+        volume: u64,
+        block: u64,
+        priority: u64,
+        length: usize,
+    },
+    // Why, and the offset of the number at fault.
+    Refused(Refusal, usize),
+}
+
+pub fn read_record(part: &[u8]) -> Record
+    ensures { λ r. ⌜ recordAnswer r ≡ recordAt (now (part .entry)) 0 ⌝ }
+{
+    let first = read_number(part, 0);
+    let Number::Value(volume, at_block) = first else {
+        return Record::Refused(fault(first), 0);
+    };
+    if !terms::is_volume(volume) {
+        return Record::Refused(Refusal::Volume, 0);
+    }
+    let second = read_number(part, at_block);
+    let Number::Value(block, block_length) = second else {
+        return Record::Refused(fault(second), at_block);
+    };
+    let at_priority = at_block + block_length;
+    let third = read_number(part, at_priority);
+    let Number::Value(priority, priority_length) = third else {
+        return Record::Refused(fault(third), at_priority);
+    };
+    if !terms::is_priority(priority) {
+        return Record::Refused(Refusal::Priority, at_priority);
+    }
+    Record::Read {
+        volume,
+        block,
+        priority,
+        length: at_priority + priority_length,
+    }
+}
+
+// The part after one record, or the whole part where that is refused.
+pub fn rest(part: &[u8]) -> &[u8]
+    ensures { λ r. ⌜ (now r ≡ drop (restStart (recordAt (now (part .entry)) 0)) (now (part .entry)))
+        × (r .ptr ≡ (part .entry .ptr .0, restStart (recordAt (now (part .entry)) 0) + part .entry .ptr .1)) ⌝ }
+{
+    let record = read_record(part);
+    let Record::Read {
+        volume: _,
+        block: _,
+        priority: _,
+        length,
+    } = record
+    else {
+        return part;
+    };
+    &part[length..]
+}
+
+// Writes a record into a buffer from an offset on.
+pub fn write_record(
+    buffer: &mut [u8],
+    at: usize,
+    volume: u64,
+    block: u32,
+    priority: u64,
+) -> Written
+    ensures { λ r. ⌜ (writtenAnswer r ≡ recordWriting (readOf volume block priority) (length (now (buffer .entry))) at)
+        × (now (buffer .exit) ≡ bufferAfter (writtenAnswer r) (now (buffer .entry)) at (spellings (readValues (readOf volume block priority)))) ⌝ }
+{
+    if !terms::is_volume(volume) {
+        return Written::Refused(Refusal::Volume);
+    }
+    if !terms::is_priority(priority) {
+        return Written::Refused(Refusal::Priority);
+    }
+    let values = [volume, block as u64, priority];
+    write_numbers(buffer, at, &values)
+}
