@@ -6,3 +6,7 @@ pub mod Spellings
 pub mod Puts
 pub mod PutNumbers
 pub mod Writings
+pub mod Ends
+pub mod OneSpelling
+pub mod RoundTrip
+pub mod WholeTrace

@@ -54,12 +54,16 @@ and-right false b e = absurd-false e
 pub in-range-low : (range : Range) (v : ℕ) → range .largest < numberLimit → inRange range v ≡ true → v < numberLimit
 in-range-low range v h e = omega (arith, leb-true v (range .largest) (and-right (leb (range .least) v) (leb v (range .largest)) e))
 
+-- each range of the format has spellings
+pub ranges-low : (edition .largest < numberLimit) × (size .largest < numberLimit) × (volume .largest < numberLimit) × (block .largest < numberLimit) × (priority .largest < numberLimit)
+unfolding edition size volume block priority numberLimit
+ranges-low = omega arith
+
 -- ---- a header
 
 pub header-spelled : (e n : ℕ) (t₁ t₂ : Bool) → t₁ ≡ inRange edition e → not t₁ ≡ false → t₂ ≡ inRange size n → not t₂ ≡ false → Spelled (e ∷ n ∷ [])
-unfolding edition size numberLimit
 header-spelled e n t₁ t₂ i₁ o₁ i₂ o₂ =
-    (in-range-low edition e (omega arith) (in-range edition e t₁ i₁ o₁), (in-range-low size n (omega arith) (in-range size n t₂ i₂ o₂), tt))
+    (in-range-low edition e (ranges-low .0) (in-range edition e t₁ i₁ o₁), (in-range-low size n (ranges-low .1) (in-range size n t₂ i₂ o₂), tt))
 
 module _ (room at e n : ℕ) (t₁ : Bool) (i₁ : t₁ ≡ inRange edition e) where
   pub other-edition : not t₁ ≡ true → Refused (numberOf Edition) ≡ headerWriting (headerOf e n) room at
@@ -87,9 +91,8 @@ unfolding numberLimit
 word-low b h = omega arith
 
 pub record-spelled : (v b p : ℕ) (t₁ t₃ : Bool) → t₁ ≡ inRange volume v → not t₁ ≡ false → b < 2 ^ 32 → t₃ ≡ inRange priority p → not t₃ ≡ false → Spelled (v ∷ b ∷ p ∷ [])
-unfolding volume priority numberLimit
 record-spelled v b p t₁ t₃ i₁ o₁ low i₃ o₃ =
-    (in-range-low volume v (omega arith) (in-range volume v t₁ i₁ o₁), (word-low b low, (in-range-low priority p (omega arith) (in-range priority p t₃ i₃ o₃), tt)))
+    (in-range-low volume v (ranges-low .2) (in-range volume v t₁ i₁ o₁), (word-low b low, (in-range-low priority p (ranges-low .4) (in-range priority p t₃ i₃ o₃), tt)))
 
 module _ (room at v b p : ℕ) (t₁ : Bool) (i₁ : t₁ ≡ inRange volume v) where
   abbrev recordSpaced : Writing

@@ -50,3 +50,7 @@ recordAt s at =
 abbrev pub restStart : Reading Read → ℕ
 restStart (Given r at) = at
 restStart (Refused number place) = 0
+
+-- the pointer so many bytes on
+abbrev pub onwards : ℕ → ℕ × ℕ → ℕ × ℕ
+onwards n pointer = (pointer .0, n + pointer .1)

@@ -1,7 +1,8 @@
 -- The one spelling of a number, a header, a record and a trace.
-use Prim.Native.Nat.{ℕ, zero, suc, _+_, _/_, _%_}
+use Prim.Native.Nat.{ℕ, zero, suc, _+_, _/_, _%_, _<_}
 use mathlib.Core.Bool.{cond}
 use mathlib.Core.List.{List, [], _∷_, _++_}
+use lib.ListN.{getD}
 use lib.Dec.{ltb}
 use Rattle.trace.specs.Number.{bytesBefore}
 use Rattle.trace.specs.Reading.{Header, Read}
@@ -34,3 +35,7 @@ recordsSpelling (r ∷ rs) = spellings (readValues r) ++ recordsSpelling rs
 -- a header and then records
 abbrev pub traceSpelling : Header → List Read → List ℕ
 traceSpelling h rs = spellings (headerValues h) ++ recordsSpelling rs
+
+-- each element is a byte
+abbrev pub Bytes : List ℕ → Type 0
+Bytes s = (i : ℕ) → getD s i 0 < 256

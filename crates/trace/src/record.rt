@@ -6,9 +6,8 @@ use crate::number::fault;
 use crate::number::read_number;
 use crate::spelling::write_numbers;
 ghost use mathlib.Core.Path.{_≡_};
-ghost use Prim.Native.Nat.{_+_};
 ghost use lib.ListN.{length, drop};
-ghost use Rattle.trace.specs.Reading.{recordAt, readOf, restStart};
+ghost use Rattle.trace.specs.Reading.{recordAt, readOf, restStart, onwards};
 ghost use Rattle.trace.specs.Spelling.{spellings, readValues};
 ghost use Rattle.trace.specs.Writing.{recordWriting, bufferAfter};
 ghost use Rattle.trace.specs.Answers.{recordAnswer, writtenAnswer};
@@ -57,7 +56,7 @@ pub fn read_record(part: &[u8]) -> Record
 // The part after one record, or the whole part where that is refused.
 pub fn rest(part: &[u8]) -> &[u8]
     ensures { λ r. ⌜ (now r ≡ drop (restStart (recordAt (now (part .entry)) 0)) (now (part .entry)))
-        × (r .ptr ≡ (part .entry .ptr .0, restStart (recordAt (now (part .entry)) 0) + part .entry .ptr .1)) ⌝ }
+        × (r .ptr ≡ onwards (restStart (recordAt (now (part .entry)) 0)) (part .entry .ptr)) ⌝ }
 {
     let record = read_record(part);
     let Record::Read {

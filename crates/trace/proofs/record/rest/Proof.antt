@@ -1,51 +1,40 @@
+-- `trace::record::rest` meets its contract: the rest starts where `restStart` says. Assumes nothing.
+use mathlib.Core.Path.{_≡_, refl, sym, ap, _∙_}
+use Prim.Native.Nat.{ℕ}
+use native.Mathlib.Nat.{zero-add}
+use native.Mathlib.Omega.{arith}
+use lib.ListN.{drop}
 use borrow.Author.Needs.{needs}
+use borrow.Rule.Slice.PartAt.{part-to-end}
+use Rattle.trace.specs.Reading.{recordAt, restStart, onwards}
+use Rattle.trace.proofs.Ends.{rest-refused, rest-after, rest-in}
 use Rattle.trace.proofs.record.rest.Statement.{statement}
 use Rattle.trace.proofs.record.rest.Tie as tie
-use Rattle.trace.proofs.record.rest.Reads as reads
-use Rattle.trace.proofs.record.rest.Lts as lts
-use Rattle.trace.proofs.record.read_record.Reads as read-record-reads
 
--- src/record.rt:62:9
-read-record-requires : tie.Need-read-record-requires
-read-record-requires c κs = search needs
-
--- src/record.rt:67:9
-enum-known-record : tie.Need-enum-known-record
-enum-known-record c = search needs
-
--- src/record.rt:70:9
-enum-told : tie.Need-enum-told
-enum-told c = search needs
-
--- src/record.rt:70:9
 returns : tie.Need-returns
-returns c = ?
+returns c =
+    let pointer = c .before .before .before .before .args .part .ptr in
+    rw (rest-refused (c .before .before .before .before .args .part .now) _ (c .before .before .read-record .ensures) _ _ (c .enum-told .given .1)) (refl, ap (λ (n : ℕ). (pointer .0, n)) (sym (zero-add (pointer .1))))
 
--- src/record.rt:72:5
 sub-result : tie.Need-sub-result
-sub-result c = ?
+sub-result c =
+    let s = c .before .before .before .before .before .args .part .now in
+    omega (arith, rest-in s, rest-after s _ (c .before .before .before .read-record .ensures) _ _ _ _ (c .before .«record» .given .1))
 
--- src/record.rt:72:5
-part-result-start : tie.Need-part-result-start
-part-result-start c = ?
-
--- src/record.rt:72:5
-part-result-end : tie.Need-part-result-end
-part-result-end c = search needs
-
--- src/record.rt:58:1
 returns-2 : tie.Need-returns-2
-returns-2 c = ?
+returns-2 c =
+    let s = c .before .before .before .before .before .before .args .part .now in
+    rw (rest-after s _ (c .before .before .before .before .read-record .ensures) _ _ _ _ (c .before .before .«record» .given .1)) (part-to-end s _, refl)
 
 pub rest-spec : {M : Type 1} → statement M
 rest-spec =
     tie.close
     (tie.spec
-    read-record-requires
-    enum-known-record
-    enum-told
+    (λ c κs. search needs)
+    (λ c. search needs)
+    (λ c. search needs)
     returns
     sub-result
-    part-result-start
-    part-result-end
+    sub-result
+    (λ c. search needs)
     returns-2)

@@ -1,0 +1,124 @@
+-- What is accepted is byte for byte its one spelling.
+use mathlib.Core.Path.{_≡_, refl, sym, ap, ap₂, subst, _∙_}
+use mathlib.Core.List.{List, [], _∷_, _++_, append-assoc, append-nil}
+use mathlib.Core.Bool.{Bool, true, false, cond}
+use Prim.Native.Nat.{ℕ, zero, suc, _+_, _-_, _*_, _/_, _%_, _≤_, _<_}
+use native.Mathlib.Numerals.{add-one}
+use native.Mathlib.Nat.{add-zero, zero-add}
+use native.Mathlib.Omega.{arith}
+use lib.ListN.{length, getD, take, drop, length-drop, take-append-drop}
+use lib.Seq.{getD-drop, drop-drop, length-take-le, take-at}
+use lib.Dec.{ltb, leb}
+use borrow.Author.Tests.{le-ltb, ltb-true, ltb-false}
+use Rattle.terms.specs.Ranges.{Range, inRange, edition, size, volume, block, priority}
+use Rattle.trace.specs.Number.{Numeral, Value, Fault, after, numeral, numberAt, topByte, bytesBefore}
+use Rattle.trace.specs.Reading.{Reading, Given, Refused, tested, field, Header, headerAt, headerOf, Read, recordAt, readOf}
+use Rattle.trace.specs.Spelling.{spell, spelling, spellings, headerValues, readValues, Bytes}
+use Rattle.terms.specs.declared.Refusal.the-variants.{Form}
+use Rattle.trace.proofs.Numbers.{Holds, holds-cond, holds-after}
+use Rattle.trace.proofs.Fields.{NumberIn, number-in}
+use Rattle.trace.proofs.Spellings.{spell-low, length-cons}
+
+-- ---- a number
+
+-- so many bytes of a list are the spelling of a value
+abbrev SpelledAs : (left : ℕ) → List ℕ → ℕ → ℕ → Type 0
+SpelledAs left s v n = take n s ≡ spell left v
+
+spelled-after : (left byte : ℕ) (s : List ℕ) (v n : ℕ) → 128 ≤ byte → byte < 256 → 1 ≤ v → SpelledAs left s v n → SpelledAs (suc left) (byte ∷ s) (byte % 128 + 128 * v) (n + 1)
+unfolding spell
+spelled-after left byte s v n low high one h =
+    rw (add-one n, le-ltb (byte % 128 + 128 * v) 128 (omega arith)) (ap₂ (λ (x : ℕ) (l : List ℕ). x ∷ l) same-byte (h ∙ ap (spell left) same-rest))
+  where
+    same-byte : byte ≡ 128 + (byte % 128 + 128 * v) % 128
+    same-byte = omega arith
+
+    same-rest : v ≡ (byte % 128 + 128 * v) / 128
+    same-rest = omega arith
+
+pub numeral-spelled : (top left : ℕ) (s : List ℕ) → Bytes s → Holds (SpelledAs left s) (numeral top left s)
+unfolding numeral spell
+numeral-spelled top zero [] y = tt
+numeral-spelled top zero (byte ∷ s) y =
+    holds-cond (SpelledAs zero (byte ∷ s)) (leb byte top) (Value byte 1) (Fault Form) (λ e. refl) (λ e. tt)
+numeral-spelled top (suc left) [] y = tt
+numeral-spelled top (suc left) (byte ∷ s) y =
+    holds-cond (SpelledAs (suc left) (byte ∷ s)) (ltb byte 128) (Value byte 1) (after byte (numeral top left s))
+    (λ e. sym (spell-low (suc left) byte (ltb-true byte 128 e)))
+    (λ e. holds-after (SpelledAs left s) (SpelledAs (suc left) (byte ∷ s)) byte (numeral top left s) (λ v n one h. spelled-after left byte s v n (ltb-false byte 128 e) (y 0) one h) (numeral-spelled top left s (λ i. y (suc i))))
+
+-- ---- values one after the other
+
+-- from a place to an end stand the spellings of values
+abbrev pub Spells : List ℕ → ℕ → ℕ → List ℕ → Type 0
+Spells s at end vs = (at + length (spellings vs) ≡ end) × (drop at s ≡ spellings vs ++ drop end s)
+
+bytes-drop : (s : List ℕ) (at : ℕ) → Bytes s → Bytes (drop at s)
+bytes-drop s at y i = rw (getD-drop at s i 0) (y (at + i))
+
+pub spells-none : (s : List ℕ) (at : ℕ) → Spells s at at []
+spells-none s at = (add-zero at, refl)
+
+module _ (s : List ℕ) (y : Bytes s) (at : ℕ) where
+  number-spelled : (v n : ℕ) → numberAt s at ≡ Value v n → (take n (drop at s) ≡ spelling v) × (n ≤ length s - at)
+  number-spelled v n e = (
+    subst (Holds (SpelledAs bytesBefore (drop at s))) e (numeral-spelled topByte bytesBefore (drop at s) (bytes-drop s at y)),
+    subst (Holds (NumberIn s at)) e (number-in s at) .3,
+  )
+
+  pub spells-more : (v n end : ℕ) (vs : List ℕ) → numberAt s at ≡ Value v n → Spells s (at + n) end vs → Spells s at end (v ∷ vs)
+  spells-more v n end vs e h = (
+    omega (arith, long, h .0, both),
+    sym (take-append-drop n (drop at s)) ∙ ap₂ (λ (k m : List ℕ). k ++ m) (number-spelled v n e .0) (drop-drop n at s ∙ h .1) ∙ sym (append-assoc (spelling v) (spellings vs) (drop end s)),
+  )
+    where
+      long : length (spelling v) ≡ n
+      long = sym (ap length (number-spelled v n e .0)) ∙ length-take-le n (drop at s) (omega (arith, length-drop at s, number-spelled v n e .1))
+
+      both : length (spellings (v ∷ vs)) ≡ length (spelling v) + length (spellings vs)
+      both = length-cons v vs
+
+-- ---- headers and records
+
+module _ {A : Type 0} where
+  -- it holds of what was read and the place after it, if that is the answer
+  abbrev pub Gives : (A → ℕ → Type 0) → Reading A → Type 0
+  Gives P (Given x end) = P x end
+  Gives P (Refused number place) = Unit
+
+  pub gives-cond : (P : A → ℕ → Type 0) (t : Bool) (x y : Reading A) → (t ≡ true → Gives P x) → (t ≡ false → Gives P y) → Gives P (cond t x y)
+  gives-cond P true x y f g = f refl
+  gives-cond P false x y f g = g refl
+
+  pub gives-field : (P : A → ℕ → Type 0) (range : Range) (s : List ℕ) (at : ℕ) (next : ℕ → ℕ → Reading A)
+      → ((v n : ℕ) → numberAt s at ≡ Value v n → inRange range v ≡ true → Gives P (next v (at + n))) → Gives P (field range s at next)
+  gives-field P range s at next f = go (numberAt s at) refl
+    where
+      go : (r : Numeral) → numberAt s at ≡ r → Gives P (tested range at r next)
+      go (Value v n) e = gives-cond P (inRange range v) (next v (at + n)) _ (f v n e) (λ t. tt)
+      go (Fault refusal) e = tt
+
+-- the fields are in their ranges
+abbrev pub HeaderOk : Header → Type 0
+HeaderOk h = (inRange edition (h .edition) ≡ true) × (inRange size (h .size) ≡ true)
+
+abbrev pub ReadOk : Read → Type 0
+ReadOk r = (inRange volume (r .volume) ≡ true) × (inRange block (r .block) ≡ true) × (inRange priority (r .priority) ≡ true)
+
+pub header-spelled : (s : List ℕ) → Bytes s → (at : ℕ) → Gives (λ h end. Spells s at end (headerValues h) × HeaderOk h) (headerAt s at)
+unfolding headerAt
+header-spelled s y at =
+    gives-field _ edition s at _
+    (λ e n₁ e₁ r₁. gives-field _ size s (at + n₁) _
+    (λ n n₂ e₂ r₂. (spells-more s y at e n₁ (at + n₁ + n₂) (n ∷ []) e₁ (spells-more s y (at + n₁) n n₂ (at + n₁ + n₂) [] e₂ (spells-none s (at + n₁ + n₂))), (r₁, r₂))))
+
+pub record-spelled : (s : List ℕ) → Bytes s → (at : ℕ) → Gives (λ r end. Spells s at end (readValues r) × ReadOk r) (recordAt s at)
+unfolding recordAt
+record-spelled s y at =
+    gives-field _ volume s at _
+    (λ v n₁ e₁ r₁. gives-field _ block s (at + n₁) _
+    (λ b n₂ e₂ r₂. gives-field _ priority s (at + n₁ + n₂) _
+    (λ p n₃ e₃ r₃. (
+      spells-more s y at v n₁ (at + n₁ + n₂ + n₃) (b ∷ p ∷ []) e₁ (spells-more s y (at + n₁) b n₂ (at + n₁ + n₂ + n₃) (p ∷ []) e₂ (spells-more s y (at + n₁ + n₂) p n₃ (at + n₁ + n₂ + n₃) [] e₃ (spells-none s (at + n₁ + n₂ + n₃)))),
+      (r₁, r₂, r₃),
+    ))))
