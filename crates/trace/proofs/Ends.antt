@@ -1,17 +1,17 @@
 -- What is read ends within the bytes, and a refusal's place lies there.
-use mathlib.Core.Path.{_≡_, refl, sym, subst, _∙_}
+use mathlib.Core.Path.{_≡_}
 use mathlib.Core.List.{List}
 use mathlib.Core.Bool.{Bool, true, false, cond}
-use Prim.Native.Nat.{ℕ, _+_, _-_, _≤_, _<_}
+use Prim.Native.Nat.{ℕ, _+_, _≤_, _<_}
 use native.Mathlib.Omega.{arith}
-use lib.ListN.{length, drop, take}
+use lib.ListN.{length}
 use Rattle.terms.specs.Ranges.{Range, inRange, edition, size, volume, block, priority}
 use Rattle.terms.specs.declared.Refusal.{Refusal}
 use Rattle.trace.specs.declared.record.Record.{Record}
 use Rattle.trace.specs.declared.record.Record.the-variants as the-record
 use Rattle.trace.specs.Answers.{recordAnswer}
 use Rattle.trace.specs.Number.{Numeral, Value, Fault, numberAt}
-use Rattle.trace.specs.Reading.{Reading, Given, Refused, tested, field, Header, headerAt, headerOf, Read, recordAt, readOf, restStart}
+use Rattle.trace.specs.Reading.{Reading, Given, Refused, tested, field, headerAt, Read, recordAt, restStart}
 use Rattle.trace.proofs.Numbers.{Holds}
 use Rattle.trace.proofs.Fields.{NumberIn, number-in}
 

@@ -1,8 +1,8 @@
 -- Laws of one field: a number that is read from a place on, tested, and gone on from. They hold of every range and of whatever follows.
-use mathlib.Core.Path.{_≡_, refl, sym, ap, subst, _∙_}
+use mathlib.Core.Path.{_≡_, sym, ap, subst, _∙_}
 use mathlib.Core.List.{List}
-use mathlib.Core.Bool.{Bool, true, false, not, _&&_, cond}
-use Prim.Native.Nat.{ℕ, suc, _+_, _-_, _≤_, _<_}
+use mathlib.Core.Bool.{Bool, true, false, not}
+use Prim.Native.Nat.{ℕ, suc, _+_, _-_, _<_}
 use native.Mathlib.Omega.{arith}
 use lib.ListN.{length, drop, length-drop}
 use borrow.Author.Tests.{le-leb, not-true, not-false}
@@ -11,8 +11,8 @@ use Rattle.terms.specs.Refusals.{numberOf}
 use Rattle.terms.specs.Ranges.{Range, inRange, block}
 use Rattle.trace.specs.declared.number.Number.{Number}
 use Rattle.trace.specs.declared.number.Number.the-variants as the-number
-use Rattle.trace.specs.Number.{Numeral, Value, Fault, numberAt, topByte, bytesBefore}
-use Rattle.trace.specs.Reading.{Reading, Given, Refused, tested, field}
+use Rattle.trace.specs.Number.{Value, numberAt, topByte, bytesBefore}
+use Rattle.trace.specs.Reading.{Reading, Refused, field}
 use Rattle.trace.specs.Answers.{numberAnswer, faultOf}
 use Rattle.trace.specs.Bounds.{numberLimit}
 use Rattle.trace.proofs.Numbers.{Holds, Bounded, numeral-bounded}

@@ -10,3 +10,4 @@ pub mod Ends
 pub mod OneSpelling
 pub mod RoundTrip
 pub mod WholeTrace
+pub mod Determined

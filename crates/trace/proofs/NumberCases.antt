@@ -66,4 +66,5 @@ pub small-rest : (left : ℕ) (s : List ℕ) (x : Numeral) → left ≤ bytesBef
 small-rest left s x h e g = subst Small (sym g) (numeral-small (left - 1) s (omega arith))
 
 pub ruleset number-cases = (needs, at-end, over-top, last-of-all, last-byte, one-more, small-rest)
+
 pub ruleset after-cases = (needs, zero-last, longer, product-fits, value-fits, length-fits, passed-on)

@@ -1,18 +1,18 @@
 -- What is accepted is byte for byte its one spelling.
 use mathlib.Core.Path.{_≡_, refl, sym, ap, ap₂, subst, _∙_}
-use mathlib.Core.List.{List, [], _∷_, _++_, append-assoc, append-nil}
+use mathlib.Core.List.{List, [], _∷_, _++_, append-assoc}
 use mathlib.Core.Bool.{Bool, true, false, cond}
 use Prim.Native.Nat.{ℕ, zero, suc, _+_, _-_, _*_, _/_, _%_, _≤_, _<_}
 use native.Mathlib.Numerals.{add-one}
-use native.Mathlib.Nat.{add-zero, zero-add}
+use native.Mathlib.Nat.{add-zero}
 use native.Mathlib.Omega.{arith}
-use lib.ListN.{length, getD, take, drop, length-drop, take-append-drop}
-use lib.Seq.{getD-drop, drop-drop, length-take-le, take-at}
+use lib.ListN.{length, take, drop, length-drop, take-append-drop}
+use lib.Seq.{getD-drop, drop-drop, length-take-le}
 use lib.Dec.{ltb, leb}
 use borrow.Author.Tests.{le-ltb, ltb-true, ltb-false}
 use Rattle.terms.specs.Ranges.{Range, inRange, edition, size, volume, block, priority}
 use Rattle.trace.specs.Number.{Numeral, Value, Fault, after, numeral, numberAt, topByte, bytesBefore}
-use Rattle.trace.specs.Reading.{Reading, Given, Refused, tested, field, Header, headerAt, headerOf, Read, recordAt, readOf}
+use Rattle.trace.specs.Reading.{Reading, Given, Refused, tested, field, Header, headerAt, Read, recordAt}
 use Rattle.trace.specs.Spelling.{spell, spelling, spellings, headerValues, readValues, Bytes}
 use Rattle.terms.specs.declared.Refusal.the-variants.{Form}
 use Rattle.trace.proofs.Numbers.{Holds, holds-cond, holds-after}

@@ -1,6 +1,6 @@
 -- Values that are written one after the other: what is left to write, written, gives the whole.
 use mathlib.Core.Path.{_≡_, sym, ap, ap₂, _∙_}
-use mathlib.Core.List.{List, _∷_, _++_}
+use mathlib.Core.List.{List}
 use Prim.Native.Nat.{ℕ, _+_, _-_, _≤_, _<_}
 use native.Mathlib.Omega.{arith}
 use lib.ListN.{length, getD, take, drop}
@@ -9,7 +9,7 @@ use borrow.Rule.Slice.PartAt.{part-to-end}
 use lib.ListN.{length-drop}
 use Rattle.trace.specs.Spelling.{spelling, spellings}
 use Rattle.trace.specs.Writing.{put}
-use Rattle.trace.specs.Bounds.{numberLimit, Spelled}
+use Rattle.trace.specs.Bounds.{Spelled}
 use Rattle.trace.proofs.Spellings.{next-value, next-spelled, next-length, last-value}
 use Rattle.trace.proofs.Puts.{put-none, put-put, put-part, put-length}
 

@@ -1,11 +1,11 @@
 -- Laws of bytes that take the place of others in a buffer.
-use mathlib.Core.Path.{_≡_, refl, sym, ap, ap₂, _∙_}
+use mathlib.Core.Path.{_≡_, sym, ap, ap₂, _∙_}
 use mathlib.Core.List.{List, [], _∷_, _++_, append-nil, append-assoc}
-use Prim.Native.Nat.{ℕ, zero, suc, _+_, _-_, _≤_, _<_}
+use Prim.Native.Nat.{ℕ, suc, _+_, _-_, _≤_, _<_}
 use native.Mathlib.Nat.{add-assoc, add-zero, zero-add}
 use native.Mathlib.Numerals.{add-one}
 use native.Mathlib.Omega.{arith}
-use lib.ListN.{length, take, drop, set, length-drop, length-append, length-take, drop-of-length-le, take-append-drop}
+use lib.ListN.{length, take, drop, set, length-drop, length-append, drop-of-length-le, take-append-drop}
 use lib.Seq.{drop-drop, length-take-le, take-at, drop-at, take-suc-set, drop-set-lt}
 use borrow.Rule.Slice.PartMut.{putMid}
 use borrow.Rule.Slice.PartAt.{part-to-end}

@@ -1,8 +1,8 @@
 -- What is written reads back, with its length, whatever follows it.
-use mathlib.Core.Path.{_≡_, refl, sym, ap, ap₂, subst, _∙_}
+use mathlib.Core.Path.{_≡_, refl, sym, ap, ap₂, _∙_}
 use mathlib.Core.List.{List, [], _∷_, _++_, append-assoc}
 use mathlib.Core.Bool.{Bool, true, false, cond}
-use Prim.Native.Nat.{ℕ, zero, suc, _+_, _*_, _/_, _%_, _≤_, _<_}
+use Prim.Native.Nat.{ℕ, zero, suc, _+_, _/_, _%_, _≤_, _<_}
 use native.Mathlib.Numerals.{add-one}
 use native.Mathlib.Omega.{arith}
 use lib.ListN.{length, take, drop}
@@ -10,8 +10,8 @@ use lib.Seq.{drop-drop, drop-append-seam, drop-at, length-take-le}
 use lib.Dec.{ltb, leb}
 use borrow.Author.Tests.{le-ltb, le-leb, leb-true, ltb-false}
 use Rattle.terms.specs.Ranges.{Range, inRange, edition, size, volume, block, priority}
-use Rattle.trace.specs.Number.{Numeral, Value, Fault, after, numeral, numberAt, topByte, bytesBefore}
-use Rattle.trace.specs.Reading.{Reading, Given, field, Header, headerAt, headerOf, Read, recordAt, readOf}
+use Rattle.trace.specs.Number.{Value, numeral, numberAt, topByte, bytesBefore}
+use Rattle.trace.specs.Reading.{Reading, Given, field, Header, headerAt, Read, recordAt}
 use Rattle.trace.specs.Spelling.{spell, spelling, spellings, headerValues, readValues}
 use Rattle.trace.specs.Writing.{Writing, Length, Refused, ranged, spaced, put, headerWriting, recordWriting}
 use Rattle.trace.specs.Bounds.{limit, numberLimit}

@@ -1,14 +1,11 @@
 -- Whole traces: the bytes of an accepted trace are the spelling of what was read, so no other bytes read as the same; and a trace that is spelled reads back.
-use mathlib.Core.Path.{_≡_, refl, sym, ap, ap₂, subst, _∙_}
-use mathlib.Core.List.{List, [], _∷_, _++_, append-assoc, append-nil}
-use mathlib.Core.Bool.{Bool, true, false, cond}
-use Prim.Native.Nat.{ℕ, zero, suc, _+_, _-_, _≤_, _<_}
-use native.Mathlib.Nat.{zero-add}
+use mathlib.Core.Path.{_≡_, refl, sym, ap, subst, _∙_}
+use mathlib.Core.List.{List, [], _∷_, _++_}
+use Prim.Native.Nat.{ℕ, zero, suc, _+_, _≤_, _<_}
 use native.Mathlib.Omega.{arith}
 use lib.ListN.{length, drop, length-drop, length-append, drop-of-length-le}
-use lib.Seq.{drop-length}
 use lib.Dec.{leb}
-use borrow.Author.Tests.{le-leb, lt-leb, leb-true, leb-false}
+use borrow.Author.Tests.{le-leb, lt-leb, leb-true}
 use Rattle.trace.specs.Reading.{Reading, Given, Refused, Header, headerAt, Read, recordAt}
 use Rattle.trace.specs.Spelling.{spellings, headerValues, readValues, recordsSpelling, traceSpelling, Bytes}
 use Rattle.trace.specs.Trace.{andThen, readsFrom, Trace, traceOf}

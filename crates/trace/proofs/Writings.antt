@@ -1,5 +1,5 @@
 -- The ways out of the writers, each from what was tested and what the callees said, for `search`.
-use mathlib.Core.Path.{_≡_, refl, sym, ap, _∙_}
+use mathlib.Core.Path.{_≡_, sym, ap, _∙_}
 use mathlib.Core.List.{List, [], _∷_}
 use mathlib.Core.Bool.{Bool, true, false, not, _&&_}
 use Prim.Native.Nat.{ℕ, _+_, _-_, _^_, _≤_, _<_}
@@ -7,14 +7,13 @@ use native.Mathlib.Omega.{arith}
 use lib.ListN.{length}
 use lib.Dec.{leb}
 use borrow.Author.Tests.{lt-leb, le-leb, leb-true, not-true, not-false}
-use borrow.Author.Needs.{needs}
 use Rattle.terms.specs.declared.Refusal.the-variants.{Edition, Size, Volume, Priority, Space}
 use Rattle.terms.specs.Refusals.{numberOf}
 use Rattle.terms.specs.Ranges.{Range, inRange, edition, size, volume, block, priority}
 use Rattle.trace.specs.Reading.{headerOf, readOf}
 use Rattle.trace.specs.Spelling.{spellings, headerValues, readValues}
 use Rattle.trace.specs.Writing.{Writing, Length, Refused, ranged, spaced, headerWriting, recordWriting}
-use Rattle.trace.specs.Bounds.{numberLimit, Spelled}
+use Rattle.trace.specs.Bounds.{numberLimit}
 use Rattle.trace.proofs.Fields.{block-any}
 
 -- ---- space
@@ -61,9 +60,10 @@ ranges-low = omega arith
 
 -- ---- a header
 
-pub header-spelled : (e n : ℕ) (t₁ t₂ : Bool) → t₁ ≡ inRange edition e → not t₁ ≡ false → t₂ ≡ inRange size n → not t₂ ≡ false → Spelled (e ∷ n ∷ [])
-header-spelled e n t₁ t₂ i₁ o₁ i₂ o₂ =
-    (in-range-low edition e (ranges-low .0) (in-range edition e t₁ i₁ o₁), (in-range-low size n (ranges-low .1) (in-range size n t₂ i₂ o₂), tt))
+pub header-low : (e n : ℕ) (t₁ t₂ : Bool) → t₁ ≡ inRange edition e → not t₁ ≡ false → t₂ ≡ inRange size n → not t₂ ≡ false
+    → (e < numberLimit) × (n < numberLimit)
+header-low e n t₁ t₂ i₁ o₁ i₂ o₂ =
+    (in-range-low edition e (ranges-low .0) (in-range edition e t₁ i₁ o₁), in-range-low size n (ranges-low .1) (in-range size n t₂ i₂ o₂))
 
 module _ (room at e n : ℕ) (t₁ : Bool) (i₁ : t₁ ≡ inRange edition e) where
   pub other-edition : not t₁ ≡ true → Refused (numberOf Edition) ≡ headerWriting (headerOf e n) room at
@@ -90,9 +90,10 @@ word-low : (b : ℕ) → b < 2 ^ 32 → b < numberLimit
 unfolding numberLimit
 word-low b h = omega arith
 
-pub record-spelled : (v b p : ℕ) (t₁ t₃ : Bool) → t₁ ≡ inRange volume v → not t₁ ≡ false → b < 2 ^ 32 → t₃ ≡ inRange priority p → not t₃ ≡ false → Spelled (v ∷ b ∷ p ∷ [])
-record-spelled v b p t₁ t₃ i₁ o₁ low i₃ o₃ =
-    (in-range-low volume v (ranges-low .2) (in-range volume v t₁ i₁ o₁), (word-low b low, (in-range-low priority p (ranges-low .4) (in-range priority p t₃ i₃ o₃), tt)))
+pub record-low : (v b p : ℕ) (t₁ t₃ : Bool) → t₁ ≡ inRange volume v → not t₁ ≡ false → b < 2 ^ 32 → t₃ ≡ inRange priority p → not t₃ ≡ false
+    → (v < numberLimit) × (b < numberLimit) × (p < numberLimit)
+record-low v b p t₁ t₃ i₁ o₁ low i₃ o₃ =
+    (in-range-low volume v (ranges-low .2) (in-range volume v t₁ i₁ o₁), word-low b low, in-range-low priority p (ranges-low .4) (in-range priority p t₃ i₃ o₃))
 
 module _ (room at v b p : ℕ) (t₁ : Bool) (i₁ : t₁ ≡ inRange volume v) where
   abbrev recordSpaced : Writing

@@ -1,5 +1,4 @@
 -- What each answer of the code says, in the table's numbers and the format's values.
-use Prim.Native.Nat.{ℕ}
 use Rattle.terms.specs.Refusals.{numberOf}
 use Rattle.terms.specs.declared.Refusal.{Refusal}
 use Rattle.terms.specs.declared.Refusal.the-variants.{Form}

@@ -2,7 +2,6 @@
 use Prim.Native.Nat.{ℕ, _+_}
 use mathlib.Core.Bool.{cond}
 use mathlib.Core.List.{List}
-use Rattle.terms.specs.declared.Refusal.{Refusal}
 use Rattle.terms.specs.Refusals.{numberOf}
 use Rattle.terms.specs.Ranges.{Range, inRange, edition, size, volume, block, priority}
 use Rattle.trace.specs.Number.{Numeral, Value, Fault, numberAt}

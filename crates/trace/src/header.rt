@@ -1,10 +1,10 @@
 // The header: edition, largest size.
-use terms::Refusal;
 use crate::Written;
 use crate::number::Number;
 use crate::number::fault;
 use crate::number::read_number;
 use crate::spelling::write_numbers;
+use terms::Refusal;
 ghost use mathlib.Core.Path.{_≡_};
 ghost use lib.ListN.{length};
 ghost use Rattle.trace.specs.Reading.{headerAt, headerOf};

@@ -1,10 +1,10 @@
 // A record: volume, block, priority.
-use terms::Refusal;
 use crate::Written;
 use crate::number::Number;
 use crate::number::fault;
 use crate::number::read_number;
 use crate::spelling::write_numbers;
+use terms::Refusal;
 ghost use mathlib.Core.Path.{_≡_};
 ghost use lib.ListN.{length, drop};
 ghost use Rattle.trace.specs.Reading.{recordAt, readOf, restStart, onwards};
@@ -72,13 +72,7 @@ pub fn rest(part: &[u8]) -> &[u8]
 }
 
 // Writes a record into a buffer from an offset on.
-pub fn write_record(
-    buffer: &mut [u8],
-    at: usize,
-    volume: u64,
-    block: u32,
-    priority: u64,
-) -> Written
+pub fn write_record(buffer: &mut [u8], at: usize, volume: u64, block: u32, priority: u64) -> Written
     ensures { λ r. ⌜ (writtenAnswer r ≡ recordWriting (readOf volume block priority) (length (now (buffer .entry))) at)
         × (now (buffer .exit) ≡ bufferAfter (writtenAnswer r) (now (buffer .entry)) at (spellings (readValues (readOf volume block priority)))) ⌝ }
 {

@@ -1,6 +1,6 @@
 // Numbers spelled into a buffer, one after the other.
-use terms::Refusal;
 use crate::Written;
+use terms::Refusal;
 ghost use mathlib.Core.Path.{_≡_};
 ghost use Prim.Native.Nat.{_+_, _≤_, _<_};
 ghost use lib.ListN.{length};
@@ -29,14 +29,14 @@ fn write_number(part: &mut [u8], value: u64) -> usize
     ensures { λ r. ⌜ (r ≡ length (spelling value)) × (now (part .exit) ≡ put (now (part .entry)) 0 (spelling value)) ⌝ }
 {
     let mut rest = value;
-    let mut i = 0;
+    let mut at = 0;
     while 128 <= rest {
-        part[i] = (128 + rest % 128) as u8;
+        part[at] = (128 + rest % 128) as u8;
         rest = rest / 128;
-        i = i + 1;
+        at = at + 1;
     }
-    part[i] = rest as u8;
-    i + 1
+    part[at] = rest as u8;
+    at + 1
 }
 
 // How many bytes the values take.

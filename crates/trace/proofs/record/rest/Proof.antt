@@ -1,12 +1,10 @@
 -- `trace::record::rest` meets its contract: the rest starts where `restStart` says. Assumes nothing.
-use mathlib.Core.Path.{_≡_, refl, sym, ap, _∙_}
+use mathlib.Core.Path.{refl, sym, ap}
 use Prim.Native.Nat.{ℕ}
 use native.Mathlib.Nat.{zero-add}
 use native.Mathlib.Omega.{arith}
-use lib.ListN.{drop}
 use borrow.Author.Needs.{needs}
 use borrow.Rule.Slice.PartAt.{part-to-end}
-use Rattle.trace.specs.Reading.{recordAt, restStart, onwards}
 use Rattle.trace.proofs.Ends.{rest-refused, rest-after, rest-in}
 use Rattle.trace.proofs.record.rest.Statement.{statement}
 use Rattle.trace.proofs.record.rest.Tie as tie

@@ -2,9 +2,14 @@
 use mathlib.Core.Path.{refl}
 use native.Mathlib.Omega.{arith}
 use borrow.Author.Needs.{needs}
-use Rattle.trace.proofs.Writings.{over-volume, other-priority, record-spelled, record-written}
+use Rattle.trace.proofs.Writings.{over-volume, other-priority, record-low, record-written}
 use Rattle.trace.proofs.record.write_record.Statement.{statement}
 use Rattle.trace.proofs.record.write_record.Tie as tie
+
+values-low : tie.Need-write-numbers-requires
+values-low c κs =
+    let low = record-low _ (c .before .before .before .before .before .before .before .args .block) _ _ _ (c .before .before .before .before .before .is-volume .ensures) (c .before .before .before .before .if1 .left) (omega arith) (c .before .before .before .is-priority .ensures) (c .before .before .if2 .left) in
+    (omega arith, (omega arith, (omega arith, tt)))
 
 pub write-record-spec : {M : Type 1} → statement M
 write-record-spec =
@@ -15,6 +20,6 @@ write-record-spec =
     (λ c κs. search needs)
     (λ c. (search other-priority, refl))
     (λ c. search needs)
-    (λ c κs. record-spelled _ _ _ _ _ (c .before .before .before .before .before .is-volume .ensures) (c .before .before .before .before .if1 .left) (omega arith) (c .before .before .before .is-priority .ensures) (c .before .before .if2 .left))
+    values-low
     (λ c. search needs)
     (λ c. (search record-written, search needs)))

@@ -3,7 +3,6 @@ use mathlib.Core.Path.{_≡_, ap}
 use Prim.Native.Nat.{_+_, _-_, _≤_}
 use native.Mathlib.Omega.{arith}
 use lib.ListN.{length, getD, drop}
-use borrow.Author.Needs.{needs}
 use Rattle.trace.specs.Spelling.{spelling, spellings}
 use Rattle.trace.specs.Bounds.{Spelled}
 use Rattle.trace.proofs.Spellings.{next-spelled, next-length, last-value, spellings-short}

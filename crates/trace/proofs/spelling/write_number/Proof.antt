@@ -12,14 +12,14 @@ use Rattle.trace.proofs.spelling.write_number.Statement.{statement}
 use Rattle.trace.proofs.spelling.write_number.Tie as tie
 
 abbrev Inv-loop : tie.InvT-loop
-Inv-loop part₀ value rest₀ i₀ part rest i =
+Inv-loop part₀ value rest₀ at₀ part rest at =
     (rest < numberLimit)
-    × (i + length (spelling rest) ≡ length (spelling value))
+    × (at + length (spelling rest) ≡ length (spelling value))
     × (length part ≡ length part₀)
-    × (put part i (spelling rest) ≡ put part₀ 0 (spelling value))
+    × (put part at (spelling rest) ≡ put part₀ 0 (spelling value))
 
 abbrev μ-loop : tie.MeasureT-loop
-μ-loop part₀ value rest₀ i₀ part rest i = rest
+μ-loop part₀ value rest₀ at₀ part rest at = rest
 
 loop-holds : tie.Need-loop-holds Inv-loop μ-loop
 loop-holds c = (c .pre .0, omega arith, refl, refl)
@@ -27,8 +27,8 @@ loop-holds c = (c .pre .0, omega arith, refl, refl)
 slice-write-part : tie.Need-slice-write-part Inv-loop μ-loop
 slice-write-part c = omega (arith, spelling-short (c .before .loop .rest))
 
-add-i : tie.Need-add-i Inv-loop μ-loop
-add-i c = omega (arith, spelling-short (c .before .before .args .value))
+add-at : tie.Need-add-at Inv-loop μ-loop
+add-at c = omega (arith, spelling-short (c .before .before .args .value))
 
 loop-again : tie.Need-loop-again Inv-loop μ-loop
 loop-again c =
@@ -36,8 +36,8 @@ loop-again c =
     let high = spelling-high (l .rest) (l .inv .0) (c .loop-test .taken) in (
       omega arith,
       omega (arith, length-high (l .rest) (l .inv .0) (c .loop-test .taken)),
-      length-set (l .part) (l .i) (128 + l .rest % 128) ∙ l .inv .2,
-      put-cons (l .part) (l .i) (128 + l .rest % 128) (spelling (l .rest / 128)) (slice-write-part c) ∙ ap (put (l .part) (l .i)) (sym high) ∙ l .inv .3,
+      length-set (l .part) (l .at) (128 + l .rest % 128) ∙ l .inv .2,
+      put-cons (l .part) (l .at) (128 + l .rest % 128) (spelling (l .rest / 128)) (slice-write-part c) ∙ ap (put (l .part) (l .at)) (sym high) ∙ l .inv .3,
     )
 
 slice-write-part-2 : tie.Need-slice-write-part-2 Inv-loop μ-loop
@@ -47,13 +47,13 @@ add-result : tie.Need-add-result Inv-loop μ-loop
 add-result c = omega (arith, spelling-short (c .before .before .args .value))
 
 same-length : tie.Need-same-length Inv-loop μ-loop
-same-length c = length-set (c .before .loop .part) (c .before .loop .i) (c .before .loop .rest) ∙ c .before .loop .inv .2
+same-length c = length-set (c .before .loop .part) (c .before .loop .at) (c .before .loop .rest) ∙ c .before .loop .inv .2
 
 returns : tie.Need-returns Inv-loop μ-loop
 returns c =
     let l = c .before .loop in (
       omega (arith, length-low (l .rest) (c .loop-test .left)),
-      put-byte (l .part) (l .i) (l .rest) (slice-write-part-2 c) ∙ ap (put (l .part) (l .i)) (sym (spelling-low (l .rest) (c .loop-test .left))) ∙ l .inv .3,
+      put-byte (l .part) (l .at) (l .rest) (slice-write-part-2 c) ∙ ap (put (l .part) (l .at)) (sym (spelling-low (l .rest) (c .loop-test .left))) ∙ l .inv .3,
     )
 
 pub write-number-spec : {M : Type 1} → statement M
@@ -66,7 +66,7 @@ write-number-spec =
     (λ c. omega arith)
     (λ c. omega arith)
     slice-write-part
-    add-i
+    add-at
     (λ c. omega arith)
     loop-again
     (λ c. omega arith)
