@@ -11,21 +11,26 @@ pub record Range : Type 0 where
   pub largest : ℕ
   pub refusal : Refusal
 
+-- from the least to the largest, both included
 abbrev pub inRange : Range → ℕ → Bool
 inRange range value = leb (range .least) value && leb value (range .largest)
 
+-- the edition of a trace
 unfoldable pub edition : Range
 edition = record { least = 1; largest = 1; refusal = Edition }
 
+-- the size of a card
 unfoldable pub size : Range
 size = record { least = 1; largest = 127; refusal = Size }
 
+-- the volume of a block
 unfoldable pub volume : Range
 volume = record { least = 0; largest = 65535; refusal = Volume }
 
--- each number is a block: a larger one has no spelling
+-- the number of a block on its volume: each number is one, and a larger one has no spelling
 unfoldable pub block : Range
 block = record { least = 0; largest = 4294967295; refusal = Form }
 
+-- the priority of a read
 unfoldable pub priority : Range
 priority = record { least = 1; largest = 16383; refusal = Priority }

@@ -60,7 +60,8 @@ pub spells-none : (s : List ℕ) (at : ℕ) → Spells s at at []
 spells-none s at = (add-zero at, refl)
 
 module _ (s : List ℕ) (y : Bytes s) (at : ℕ) where
-  number-spelled : (v n : ℕ) → numberAt s at ≡ Value v n → (take n (drop at s) ≡ spelling v) × (n ≤ length s - at)
+  -- the bytes of an accepted number are its spelling
+  pub number-spelled : (v n : ℕ) → numberAt s at ≡ Value v n → (take n (drop at s) ≡ spelling v) × (n ≤ length s - at)
   number-spelled v n e = (
     subst (Holds (SpelledAs bytesBefore (drop at s))) e (numeral-spelled topByte bytesBefore (drop at s) (bytes-drop s at y)),
     subst (Holds (NumberIn s at)) e (number-in s at) .3,

@@ -14,18 +14,22 @@ use Rattle.trace.specs.declared.record.Record.the-variants as the-record
 use Rattle.trace.specs.declared.Written.{Written}
 use Rattle.trace.specs.declared.Written.the-variants as the-written
 
+-- the answer of the number reader
 abbrev pub numberAnswer : Number → number.Numeral
 numberAnswer (the-number.Value v n) = number.Value v n
 numberAnswer (the-number.Refused refusal) = number.Fault refusal
 
+-- of the header reader
 abbrev pub headerAnswer : Header → reading.Reading reading.Header
 headerAnswer (the-header.Accepted e n length) = reading.Given (reading.headerOf e n) length
 headerAnswer (the-header.Refused refusal place) = reading.Refused (numberOf refusal) place
 
+-- of the record reader
 abbrev pub recordAnswer : Record → reading.Reading reading.Read
 recordAnswer (the-record.Read v b p length) = reading.Given (reading.readOf v b p) length
 recordAnswer (the-record.Refused refusal place) = reading.Refused (numberOf refusal) place
 
+-- of both writers
 abbrev pub writtenAnswer : Written → writing.Writing
 writtenAnswer (the-written.Length n) = writing.Length n
 writtenAnswer (the-written.Refused refusal) = writing.Refused (numberOf refusal)

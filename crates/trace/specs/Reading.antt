@@ -26,9 +26,11 @@ pub record Header : Type 0 where
   pub edition : ℕ
   pub size : ℕ
 
+-- the header of an edition and a size
 abbrev pub headerOf : ℕ → ℕ → Header
 headerOf e n = record { edition = e; size = n }
 
+-- the header at a place of the bytes
 unfoldable pub headerAt : List ℕ → ℕ → Reading Header
 headerAt s at = field edition s at (λ e at₁. field size s at₁ (λ n at₂. Given (headerOf e n) at₂))
 
@@ -38,9 +40,11 @@ pub record Read : Type 0 where
   pub block : ℕ
   pub priority : ℕ
 
+-- the read of a volume, a block and a priority
 abbrev pub readOf : ℕ → ℕ → ℕ → Read
 readOf v b p = record { volume = v; block = b; priority = p }
 
+-- the record at a place of the bytes
 unfoldable pub recordAt : List ℕ → ℕ → Reading Read
 recordAt s at =
     field volume s at (λ v at₁. field block s at₁ (λ b at₂. field priority s at₂ (λ p at₃. Given (readOf v b p) at₃)))

@@ -21,9 +21,11 @@ abbrev pub spellings : List ℕ → List ℕ
 spellings [] = []
 spellings (v ∷ vs) = spelling v ++ spellings vs
 
+-- the numbers of a header in their order
 abbrev pub headerValues : Header → List ℕ
 headerValues h = h .edition ∷ h .size ∷ []
 
+-- the numbers of a record in their order
 abbrev pub readValues : Read → List ℕ
 readValues r = r .volume ∷ r .block ∷ r .priority ∷ []
 

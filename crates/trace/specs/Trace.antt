@@ -19,10 +19,11 @@ readsFrom (suc steps) s at =
     cond (leb (length s) at) (Given [] at)
     (andThen (recordAt s at) (λ r at₁. andThen (readsFrom steps s at₁) (λ rs at₂. Given (r ∷ rs) at₂)))
 
--- a trace's header and reads
+-- a trace is a header and reads
 pub record Trace : Type 0 where
   pub header : Header
   pub reads : List Read
 
+-- the trace that the bytes are
 unfoldable pub traceOf : List ℕ → Reading Trace
 traceOf s = andThen (headerAt s 0) (λ h at. andThen (readsFrom (length s) s at) (λ rs at₁. Given (record { header = h; reads = rs }) at₁))

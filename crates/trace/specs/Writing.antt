@@ -15,19 +15,20 @@ pub data Writing : Type 0 where
   Length : ℕ → Writing
   Refused : ℕ → Writing
 
--- a field's range
+-- the range of a field, and then what follows
 abbrev pub ranged : Range → ℕ → Writing → Writing
 ranged range v next = cond (inRange range v) next (Refused (numberOf (range .refusal)))
 
--- then space: so many bytes from the offset on
+-- space for so many bytes from an offset of a buffer on
 abbrev pub spaced : ℕ → ℕ → ℕ → Writing
 spaced room at n = cond (leb (at + n) room) (Length n) (Refused (numberOf Space))
 
--- the answer to a header that is to be written at an offset of a buffer with so many bytes
+-- the answer to a header that is to be written at an offset of a buffer of so many bytes
 unfoldable pub headerWriting : Header → ℕ → ℕ → Writing
 headerWriting h room at =
     ranged edition (h .edition) (ranged size (h .size) (spaced room at (length (spellings (headerValues h)))))
 
+-- the answer to a record, likewise
 unfoldable pub recordWriting : Read → ℕ → ℕ → Writing
 recordWriting r room at =
     ranged volume (r .volume)

@@ -1,4 +1,6 @@
 // Figures of the trace format: each line that is printed is a question and its answer.
+ghost use Prim.Native.Nat.{_≤_};
+ghost use lib.ListN.{length};
 use libc::STDOUT_FILENO;
 use terms::Refusal;
 use trace::Written;
@@ -106,6 +108,12 @@ fn say_written(answer: Written, buffer: &[u8]) {
     say(b"\n");
 }
 
+fn front(buffer: &mut [u8], room: usize) -> &mut [u8]
+    requires { ⌜ room ≤ length (now buffer) ⌝ }
+{
+    &mut buffer[..room]
+}
+
 // A header written into the first bytes of a buffer.
 fn header_into(buffer: &mut [u8], room: usize, at: usize, edition: u64, size: u64) {
     if buffer.len() < room {
@@ -115,7 +123,7 @@ fn header_into(buffer: &mut [u8], room: usize, at: usize, edition: u64, size: u6
     say_number(b" at ", at as u64);
     say_number(b" edition ", edition);
     say_number(b" size ", size);
-    let answer = trace::header::write_header(&mut buffer[..room], at, edition, size);
+    let answer = trace::header::write_header(front(buffer, room), at, edition, size);
     say_written(answer, buffer);
 }
 
@@ -134,7 +142,7 @@ fn record_into(buffer: &mut [u8], room: usize, at: usize, volume: u64, block: u3
     say_number(b" volume ", volume);
     say_number(b" block ", block as u64);
     say_number(b" priority ", priority);
-    let answer = trace::record::write_record(&mut buffer[..room], at, volume, block, priority);
+    let answer = trace::record::write_record(front(buffer, room), at, volume, block, priority);
     say_written(answer, buffer);
 }
 
