@@ -12,6 +12,7 @@ use Rattle.trace.specs.declared.record.Record.{Record}
 use Rattle.trace.specs.declared.record.Record.the-variants as the-record
 use Rattle.trace.specs.declared.Written.{Written}
 use Rattle.trace.specs.declared.Written.the-variants as the-written
+use Rattle.terms.specs.Reads.{Read, readOf}
 use Rattle.trace.specs.Number as number
 use Rattle.trace.specs.Reading as reading
 use Rattle.trace.specs.Writing as writing
@@ -37,10 +38,10 @@ one-header (the-header.Refused r p) (the-header.Refused s o) q = ap₂ the-heade
 
 one-record : (x y : Record) → recordAnswer x ≡ recordAnswer y → x ≡ y
 one-record (the-record.Read v b p n) (the-record.Read w c q m) e =
-    let h : reading.readOf v b p ≡ reading.readOf w c q = cc in
-    let volumes : v ≡ w = ap (λ (x : reading.Read). x .volume) h in
-    let blocks : b ≡ c = ap (λ (x : reading.Read). x .block) h in
-    let priorities : p ≡ q = ap (λ (x : reading.Read). x .priority) h in
+    let h : readOf v b p ≡ readOf w c q = cc in
+    let volumes : v ≡ w = ap (λ (x : Read). x .volume) h in
+    let blocks : b ≡ c = ap (λ (x : Read). x .block) h in
+    let priorities : p ≡ q = ap (λ (x : Read). x .priority) h in
     cc
 one-record (the-record.Read v b p n) (the-record.Refused r o) e = cc
 one-record (the-record.Refused r o) (the-record.Read w c q m) e = cc

@@ -11,7 +11,8 @@ use Rattle.trace.specs.declared.record.Record.{Record}
 use Rattle.trace.specs.declared.record.Record.the-variants as the-record
 use Rattle.trace.specs.Answers.{recordAnswer}
 use Rattle.trace.specs.Number.{Numeral, Value, Fault, numberAt}
-use Rattle.trace.specs.Reading.{Reading, Given, Refused, tested, field, headerAt, Read, recordAt, restStart}
+use Rattle.terms.specs.Reads.{Read}
+use Rattle.trace.specs.Reading.{Reading, Given, Refused, tested, field, headerAt, recordAt, restStart}
 use Rattle.trace.proofs.Numbers.{Holds}
 use Rattle.trace.proofs.Fields.{NumberIn, number-in}
 

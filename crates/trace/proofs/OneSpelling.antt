@@ -12,7 +12,8 @@ use lib.Dec.{ltb, leb}
 use borrow.Author.Tests.{le-ltb, ltb-true, ltb-false}
 use Rattle.terms.specs.Ranges.{Range, inRange, edition, size, volume, block, priority}
 use Rattle.trace.specs.Number.{Numeral, Value, Fault, after, numeral, numberAt, topByte, bytesBefore}
-use Rattle.trace.specs.Reading.{Reading, Given, Refused, tested, field, Header, headerAt, Read, recordAt}
+use Rattle.terms.specs.Reads.{Read}
+use Rattle.trace.specs.Reading.{Reading, Given, Refused, tested, field, Header, headerAt, recordAt}
 use Rattle.trace.specs.Spelling.{spell, spelling, spellings, headerValues, readValues, Bytes}
 use Rattle.terms.specs.declared.Refusal.the-variants.{Form}
 use Rattle.trace.proofs.Numbers.{Holds, holds-cond, holds-after}

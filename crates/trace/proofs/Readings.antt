@@ -16,7 +16,8 @@ use Rattle.trace.specs.declared.number.Number.{Number}
 use Rattle.trace.specs.declared.number.Number.the-variants.{Value}
 use Rattle.trace.specs.declared.number.Number.the-variants as the-number
 use Rattle.trace.specs.Number.{numberAt, bytesBefore}
-use Rattle.trace.specs.Reading.{Reading, Given, Refused, field, Header, headerAt, headerOf, Read, recordAt, readOf}
+use Rattle.terms.specs.Reads.{Read, readOf}
+use Rattle.trace.specs.Reading.{Reading, Given, Refused, field, Header, headerAt, headerOf, recordAt}
 use Rattle.trace.specs.Answers.{numberAnswer, faultOf}
 use Rattle.trace.proofs.Fields.{block-any, bounded, no-number, out-of-range, goes-on, passes}
 

@@ -11,7 +11,8 @@ use lib.Dec.{ltb, leb}
 use borrow.Author.Tests.{le-ltb, le-leb, leb-true, ltb-false}
 use Rattle.terms.specs.Ranges.{Range, inRange, edition, size, volume, block, priority}
 use Rattle.trace.specs.Number.{Value, numeral, numberAt, topByte, bytesBefore}
-use Rattle.trace.specs.Reading.{Reading, Given, field, Header, headerAt, Read, recordAt}
+use Rattle.terms.specs.Reads.{Read}
+use Rattle.trace.specs.Reading.{Reading, Given, field, Header, headerAt, recordAt}
 use Rattle.trace.specs.Spelling.{spell, spelling, spellings, headerValues, readValues}
 use Rattle.trace.specs.Writing.{Writing, Length, Refused, ranged, spaced, put, headerWriting, recordWriting}
 use Rattle.trace.specs.Bounds.{limit, numberLimit}

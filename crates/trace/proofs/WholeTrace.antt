@@ -6,7 +6,8 @@ use native.Mathlib.Omega.{arith}
 use lib.ListN.{length, drop, length-drop, length-append, drop-of-length-le}
 use lib.Dec.{leb}
 use borrow.Author.Tests.{le-leb, lt-leb, leb-true}
-use Rattle.trace.specs.Reading.{Reading, Given, Refused, Header, headerAt, Read, recordAt}
+use Rattle.terms.specs.Reads.{Read}
+use Rattle.trace.specs.Reading.{Reading, Given, Refused, Header, headerAt, recordAt}
 use Rattle.trace.specs.Spelling.{spellings, headerValues, readValues, recordsSpelling, traceSpelling, Bytes}
 use Rattle.trace.specs.Trace.{andThen, readsFrom, Trace, traceOf}
 use Rattle.trace.proofs.Spellings.{length-cons, spelling-short}

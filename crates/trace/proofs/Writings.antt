@@ -10,7 +10,8 @@ use borrow.Author.Tests.{lt-leb, le-leb, leb-true, not-true, not-false}
 use Rattle.terms.specs.declared.Refusal.the-variants.{Edition, Size, Volume, Priority, Space}
 use Rattle.terms.specs.Refusals.{numberOf}
 use Rattle.terms.specs.Ranges.{Range, inRange, edition, size, volume, block, priority}
-use Rattle.trace.specs.Reading.{headerOf, readOf}
+use Rattle.terms.specs.Reads.{readOf}
+use Rattle.trace.specs.Reading.{headerOf}
 use Rattle.trace.specs.Spelling.{spellings, headerValues, readValues}
 use Rattle.trace.specs.Writing.{Writing, Length, Refused, ranged, spaced, headerWriting, recordWriting}
 use Rattle.trace.specs.Bounds.{numberLimit}

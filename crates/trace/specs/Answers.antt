@@ -2,6 +2,7 @@
 use Rattle.terms.specs.Refusals.{numberOf}
 use Rattle.terms.specs.declared.Refusal.{Refusal}
 use Rattle.terms.specs.declared.Refusal.the-variants.{Form}
+use Rattle.terms.specs.Reads.{Read, readOf}
 use Rattle.trace.specs.Number as number
 use Rattle.trace.specs.Reading as reading
 use Rattle.trace.specs.Writing as writing
@@ -25,8 +26,8 @@ headerAnswer (the-header.Accepted e n length) = reading.Given (reading.headerOf 
 headerAnswer (the-header.Refused refusal place) = reading.Refused (numberOf refusal) place
 
 -- of the record reader
-abbrev pub recordAnswer : Record → reading.Reading reading.Read
-recordAnswer (the-record.Read v b p length) = reading.Given (reading.readOf v b p) length
+abbrev pub recordAnswer : Record → reading.Reading Read
+recordAnswer (the-record.Read v b p length) = reading.Given (readOf v b p) length
 recordAnswer (the-record.Refused refusal place) = reading.Refused (numberOf refusal) place
 
 -- of both writers

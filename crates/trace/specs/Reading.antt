@@ -4,6 +4,7 @@ use mathlib.Core.Bool.{cond}
 use mathlib.Core.List.{List}
 use Rattle.terms.specs.Refusals.{numberOf}
 use Rattle.terms.specs.Ranges.{Range, inRange, edition, size, volume, block, priority}
+use Rattle.terms.specs.Reads.{Read, readOf}
 use Rattle.trace.specs.Number.{Numeral, Value, Fault, numberAt}
 
 -- what was read and the place after it, or the refusal's number and its place
@@ -34,17 +35,7 @@ headerOf e n = record { edition = e; size = n }
 unfoldable pub headerAt : List ℕ → ℕ → Reading Header
 headerAt s at = field edition s at (λ e at₁. field size s at₁ (λ n at₂. Given (headerOf e n) at₂))
 
--- Record: volume, block, priority
-pub record Read : Type 0 where
-  pub volume : ℕ
-  pub block : ℕ
-  pub priority : ℕ
-
--- the read of a volume, a block and a priority
-abbrev pub readOf : ℕ → ℕ → ℕ → Read
-readOf v b p = record { volume = v; block = b; priority = p }
-
--- the record at a place of the bytes
+-- the record at a place of the bytes: volume, block, priority
 unfoldable pub recordAt : List ℕ → ℕ → Reading Read
 recordAt s at =
     field volume s at (λ v at₁. field block s at₁ (λ b at₂. field priority s at₂ (λ p at₃. Given (readOf v b p) at₃)))

@@ -5,7 +5,8 @@ use mathlib.Core.List.{List, [], _∷_, _++_}
 use lib.ListN.{getD}
 use lib.Dec.{ltb}
 use Rattle.trace.specs.Number.{bytesBefore}
-use Rattle.trace.specs.Reading.{Header, Read}
+use Rattle.terms.specs.Reads.{Read}
+use Rattle.trace.specs.Reading.{Header}
 
 -- groups of seven bits, lowest first, with bit 7 set in every byte but the last; at most `left` bytes before the last
 unfoldable pub spell : (left : ℕ) → ℕ → List ℕ

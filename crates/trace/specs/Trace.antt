@@ -4,7 +4,8 @@ use mathlib.Core.Bool.{cond}
 use mathlib.Core.List.{List, [], _∷_}
 use lib.ListN.{length}
 use lib.Dec.{leb}
-use Rattle.trace.specs.Reading.{Reading, Given, Refused, Header, Read, headerAt, recordAt}
+use Rattle.terms.specs.Reads.{Read}
+use Rattle.trace.specs.Reading.{Reading, Given, Refused, Header, headerAt, recordAt}
 
 module _ {A B : Type 0} where
   -- what was read and the place after it go on, or the refusal stands

@@ -7,7 +7,8 @@ use lib.Dec.{leb}
 use Rattle.terms.specs.declared.Refusal.the-variants.{Space}
 use Rattle.terms.specs.Refusals.{numberOf}
 use Rattle.terms.specs.Ranges.{Range, inRange, edition, size, volume, block, priority}
-use Rattle.trace.specs.Reading.{Header, Read}
+use Rattle.terms.specs.Reads.{Read}
+use Rattle.trace.specs.Reading.{Header}
 use Rattle.trace.specs.Spelling.{spellings, headerValues, readValues}
 
 -- the length written, or the refusal's number
