@@ -2,10 +2,10 @@
 
 The gate compares that file with what the proved library answers, so the two readings of the format meet in it.
 """
-import pathlib
 import re
 import sys
 
+import compare
 import trace_format as form
 
 ROOM = 12
@@ -68,19 +68,7 @@ def line(call, arguments):
     return written('record', ('volume', 'block', 'priority'), form.RECORD, room, at, values)
 
 
-def main():
-    crate = pathlib.Path(__file__).resolve().parent.parent / 'crates' / 'trace_test'
-    source = (crate / 'src' / 'main.rt').read_text()
-    cases = source[source.index('\nfn numbers() {'):]
-    calls = [found.groups() for found in map(CALL.match, cases.split('\n')) if found]
-    stored = (crate / 'stdout').read_text().split('\n')[:-1]
-    worked = [line(*call) for call in calls]
-    wrong = [pair for pair in zip(worked, stored) if pair[0] != pair[1]]
-    for ours, theirs in wrong:
-        print('worked out: %s\nstored:     %s' % (ours, theirs))
-    failed = len(wrong) + abs(len(worked) - len(stored))
-    print('%d passed, %d failed' % (len(worked) - len(wrong), failed))
-    return 1 if failed or not worked else 0
-
-
-sys.exit(main())
+source = (compare.CRATES / 'trace_test' / 'src' / 'main.rt').read_text()
+cases = source[source.index('\nfn numbers() {'):]
+calls = [found.groups() for found in map(CALL.match, cases.split('\n')) if found]
+sys.exit(compare.report([line(*call) for call in calls], 'trace_test'))

@@ -1,0 +1,104 @@
+-- The outcome from what was tested, and what was tested from the outcome.
+use mathlib.Core.Path.{_≡_, refl, sym, ap, ap₂, subst, _∙_}
+use mathlib.Core.List.{List, [], _∷_}
+use Prim.Native.Nat.{ℕ, zero, suc, _≤_, _<_}
+use native.Mathlib.Omega.{arith}
+use lib.ListN.{length, getD}
+use Rattle.card.specs.Rule.{place, oneLower, outcome, effects, outcomeOn, afterRead}
+use Rattle.card.proofs.Tests.{by-lt, by-eq, tests}
+
+module _ (m j p : ℕ) where
+  pub insert-is : j ≡ 0 → p ≤ m → 4 ≡ outcome m j p
+  unfolding outcome
+  insert-is e h = simp tests
+
+  pub miss-bypass-is : j ≡ 0 → m < p → 5 ≡ outcome m j p
+  unfolding outcome
+  miss-bypass-is e h = simp tests
+
+  module _ (n : j ≡ 0 → ⊥) where
+    pub up-is : p < j → 0 ≡ outcome m j p
+    unfolding outcome
+    up-is h = simp tests
+
+    pub same-is : j ≤ p → p ≡ j → 1 ≡ outcome m j p
+    unfolding outcome
+    same-is h e = simp tests
+
+    pub down-is : j ≤ p → (p ≡ j → ⊥) → p ≤ m → 2 ≡ outcome m j p
+    unfolding outcome
+    down-is h k l = simp tests
+
+    pub hit-bypass-is : j ≤ p → (p ≡ j → ⊥) → m < p → 3 ≡ outcome m j p
+    unfolding outcome
+    hit-bypass-is h k l = simp tests
+
+pub ruleset outcome-cases = (insert-is, miss-bypass-is, up-is, same-is, down-is, hit-bypass-is)
+
+-- what holds of a number, for each of the six cases of the table
+pub by-outcome : (P : ℕ → Type 0) (m j p : ℕ)
+    → (1 ≤ j → p < j → P 0) → (1 ≤ j → p ≡ j → P 1) → (1 ≤ j → j < p → p ≤ m → P 2) → (1 ≤ j → j < p → m < p → P 3) → (j ≡ 0 → p ≤ m → P 4) → (j ≡ 0 → m < p → P 5)
+    → P (outcome m j p)
+unfolding outcome
+by-outcome P m j p up same down hitBypass insert missBypass =
+    by-eq j 0
+    (λ e. by-lt m p (λ h. simp tests (missBypass e h)) (λ h. simp tests (insert e h)))
+    (λ e. by-lt p j
+    (λ h. simp tests (up (omega arith) h))
+    (λ h. by-eq p j
+    (λ q. simp tests (same (omega arith) q))
+    (λ q. by-lt m p (λ k. simp tests (hitBypass (omega arith) (omega arith) k)) (λ k. simp tests (down (omega arith) (omega arith) k)))))
+
+-- ---- what each arm of the shift knows
+
+abbrev ArmFacts : (m j p : ℕ) → ℕ → Type 0
+ArmFacts m j p n =
+    (n ≡ 0 → (1 ≤ j) × (p < j)) × (n ≡ 2 → (1 ≤ j) × (j < p) × (p ≤ m)) × (n ≡ 3 → 1 ≤ j) × (n ≡ 4 → p ≤ m)
+
+pub arm-facts : (m j p n : ℕ) → n ≡ outcome m j p → ArmFacts m j p n
+arm-facts m j p n e =
+    subst (ArmFacts m j p) (sym e)
+    (by-outcome (ArmFacts m j p) m j p
+    (λ a b. ((λ q. omega arith), (λ q. omega arith), (λ q. omega arith), (λ q. omega arith)))
+    (λ a b. ((λ q. omega arith), (λ q. omega arith), (λ q. omega arith), (λ q. omega arith)))
+    (λ a b d. ((λ q. omega arith), (λ q. omega arith), (λ q. omega arith), (λ q. omega arith)))
+    (λ a b d. ((λ q. omega arith), (λ q. omega arith), (λ q. omega arith), (λ q. omega arith)))
+    (λ a b. ((λ q. omega arith), (λ q. omega arith), (λ q. omega arith), (λ q. omega arith)))
+    (λ a b. ((λ q. omega arith), (λ q. omega arith), (λ q. omega arith), (λ q. omega arith))))
+
+abbrev Still : List ℕ → (x j p : ℕ) → ℕ → Type 0
+Still c x j p n = (n ≡ 0 → ⊥) → (n ≡ 2 → ⊥) → (n ≡ 3 → ⊥) → (n ≡ 4 → ⊥) → c ≡ getD (effects c x j p) n c
+
+-- the two outcomes that change nothing
+pub still : (c : List ℕ) (x m j p n : ℕ) → n ≡ outcome m j p → Still c x j p n
+still c x m j p n e =
+    subst (Still c x j p) (sym e)
+    (by-outcome (Still c x j p) m j p
+    (λ a b n₀ n₂ n₃ n₄. absurd (n₀ refl))
+    (λ a b n₀ n₂ n₃ n₄. refl)
+    (λ a b d n₀ n₂ n₃ n₄. absurd (n₂ refl))
+    (λ a b d n₀ n₂ n₃ n₄. absurd (n₃ refl))
+    (λ a b n₀ n₂ n₃ n₄. absurd (n₄ refl))
+    (λ a b n₀ n₂ n₃ n₄. refl))
+
+-- a block's place is in the card
+pub place-in : (c : List ℕ) (x : ℕ) → place c x ≤ length c
+place-in [] x = omega arith
+place-in (y ∷ ys) x = by-eq y x (λ e. simp tests (omega arith)) (λ e. simp tests (lower-in (place ys x) (length ys) (place-in ys x)))
+  where
+    lower-in : (j n : ℕ) → j ≤ n → oneLower j ≤ suc n
+    lower-in zero n h = omega arith
+    lower-in (suc j) n h = omega arith
+
+-- a read is its place, its outcome and its shift
+pub read-is : (c last : List ℕ) (x p q j n : ℕ) → q ≡ p → j ≡ place c x → n ≡ outcome (length c) j q → last ≡ getD (effects c x j q) n c
+    → (n ≡ outcomeOn c x p) × (last ≡ afterRead c x p)
+unfolding afterRead
+read-is c last x p q j n f e g h =
+    let o : n ≡ outcomeOn c x p = g ∙ ap₂ (outcome (length c)) e f in (
+      o,
+      h
+          ∙ ap (λ (k : ℕ). getD (effects c x k q) n c) e
+          ∙ ap (λ (k : ℕ). getD (effects c x (place c x) k) n c) f
+          ∙ ap (λ (k : ℕ). getD (effects c x (place c x) p) k c) o,
+    )

@@ -1,0 +1,23 @@
+-- `card::state::is_state` meets its contract: each way out is a case of `isState`. Assumes nothing.
+use native.Mathlib.Omega.{arith}
+use borrow.Author.Needs.{needs}
+use Rattle.card.proofs.States.{no-size, size-low, full-after, over-key, apart-state}
+use Rattle.card.proofs.state.is_state.Statement.{statement}
+use Rattle.card.proofs.state.is_state.Tie as tie
+
+pub is-state-spec : {M : Type 1} → statement M
+is-state-spec =
+    tie.close
+    (tie.spec
+    (λ c κs. search needs)
+    (λ c. search no-size)
+    (λ c. omega (arith, size-low _ _ (c .before .is-size .ensures) (c .if1 .left)))
+    (λ c. omega (arith, size-low _ _ (c .before .is-size .ensures) (c .if1 .left)))
+    (λ c. omega (arith, size-low _ _ (c .before .is-size .ensures) (c .if1 .left)))
+    (λ c. search needs)
+    (λ c κs. search needs)
+    (λ c. search full-after)
+    (λ c κs. search needs)
+    (λ c. search over-key)
+    (λ c κs. search needs)
+    (λ c. search apart-state))

@@ -1,0 +1,6 @@
+pub mod Rule
+pub mod Run
+pub mod Stretches
+pub mod State
+pub mod Ratio
+pub mod Answers
