@@ -1,6 +1,7 @@
 -- Tests as numbers, and cases on an order.
 use mathlib.Core.Path.{_≡_, refl}
-use mathlib.Core.Bool.{Bool, true, false}
+use mathlib.Core.Bool.{Bool, true, false, _&&_, cond}
+use mathlib.Core.Logic.{_≢_}
 use Prim.Native.Nat.{ℕ, suc, _-_, _≤_, _<_, min}
 use native.Mathlib.Omega.{arith}
 use lib.Dec.{ltb, leb, eqb}
@@ -31,9 +32,23 @@ pub ruleset tests = (lt-ltb, le-ltb, le-leb, lt-leb, eq-eqb, ne-eqb)
 pub bit-le : (a b : ℕ) → bit (leb a b) ≡ min 1 (suc b - a)
 bit-le a b = by-lt b a (λ h. simp tests (omega arith)) (λ h. simp tests (omega arith))
 
-pub bit-one : (t : Bool) → bit t ≤ 1
-bit-one true = omega arith
-bit-one false = omega arith
+-- 1 for a number that is not 0: a block that is there, a place that is full
+abbrev pub here : ℕ → ℕ
+here j = cond (eqb j 0) 0 1
 
-pub bit-eq : (a b : ℕ) → 0 < bit (eqb a b) → a ≡ b
-bit-eq a b h = by-eq a b (λ e. e) (λ e. absurd (let k = simp ne-eqb at h in omega arith))
+pub here-one : (j : ℕ) → here j ≤ 1
+here-one j = by-eq j 0 (λ e. simp tests (omega arith)) (λ e. simp tests (omega arith))
+
+pub here-some : (j : ℕ) → 0 < here j → 0 < j
+here-some j h = by-eq j 0 (λ e. absurd (let g = simp tests at h in omega arith)) (λ e. omega arith)
+
+pub some-here : (j : ℕ) → 0 < j → here j ≡ 1
+some-here j h = let e : j ≢ 0 = omega arith in simp tests
+
+-- a conjunction and its two parts
+pub and-both : (s t : Bool) → (s && t) ≡ true → (s ≡ true) × (t ≡ true)
+and-both true t h = (refl, h)
+and-both false t h = let z : _≡_ {A = ℕ} 0 1 = cc in absurd (omega arith)
+
+pub both-and : (s t : Bool) → s ≡ true → t ≡ true → (s && t) ≡ true
+both-and s t e f = rw (e, f)

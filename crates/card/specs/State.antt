@@ -17,6 +17,10 @@ abbrev pub every : (ℕ → Bool) → List ℕ → Bool
 every test [] = true
 every test (x ∷ xs) = test x && every test xs
 
+-- a place holds at most a number
+abbrev pub atMost : ℕ → ℕ → Bool
+atMost most x = leb x most
+
 -- a place is empty
 abbrev pub isEmpty : ℕ → Bool
 isEmpty x = eqb x 0
@@ -27,7 +31,7 @@ largestKey = keyOf (volume .largest) (block .largest)
 
 -- a place holds a key, or is empty
 abbrev pub isKey : ℕ → Bool
-isKey x = leb x largestKey
+isKey x = atMost largestKey x
 
 -- no block is in two places
 abbrev pub apart : List ℕ → Bool

@@ -4,30 +4,18 @@ ghost use mathlib.Core.Path.{_≡_};
 ghost use Prim.Native.Nat.{_≤_};
 ghost use lib.ListN.{length};
 ghost use Rattle.terms.specs.Ranges.{size};
-ghost use Rattle.card.specs.State.{every, isEmpty, isKey, apart, isState};
+ghost use Rattle.card.specs.State.{every, atMost, apart, isState};
 
 // The key of the largest volume and the largest block.
 const LARGEST_KEY: u64 = 281474976710656;
 
-fn all_empty(places: &[u64]) -> bool
-    ensures { λ r. ⌜ r ≡ every isEmpty (now (places .entry)) ⌝ }
+// Whether no place holds more than a number: 0 for empty places.
+fn all_at_most(places: &[u64], most: u64) -> bool
+    ensures { λ r. ⌜ r ≡ every (atMost most) (now (places .entry)) ⌝ }
 {
     let mut i = 0;
     while i < places.len() {
-        if places[i] != 0 {
-            return false;
-        }
-        i += 1;
-    }
-    true
-}
-
-fn all_keys(places: &[u64]) -> bool
-    ensures { λ r. ⌜ r ≡ every isKey (now (places .entry)) ⌝ }
-{
-    let mut i = 0;
-    while i < places.len() {
-        if LARGEST_KEY < places[i] {
+        if most < places[i] {
             return false;
         }
         i += 1;
@@ -59,10 +47,10 @@ pub fn is_state(places: &[u64], m: usize) -> bool
     if !terms::is_size(m as u64) {
         return false;
     }
-    if !all_empty(&places[m..]) {
+    if !all_at_most(&places[m..], 0) {
         return false;
     }
-    if !all_keys(places) {
+    if !all_at_most(places, LARGEST_KEY) {
         return false;
     }
     all_apart(places)
