@@ -98,7 +98,7 @@ fn shift(card: &mut [u64], number: u32, j: usize, p: usize, key: u64)
 }
 
 // A priority is at least 1.
-fn at_least_one(priority: usize) -> usize
+pub fn at_least_one(priority: usize) -> usize
     ensures { λ r. ⌜ r ≡ max 1 priority ⌝ }
 {
     if priority == 0 {

@@ -1,0 +1,90 @@
+-- Lists of one stretch, and how a read moves them.
+use mathlib.Core.Path.{_≡_, sym, ap, _∙_}
+use mathlib.Core.Logic.{_⊎_, inl, ⊎-elim}
+use mathlib.Core.Bool.{cond}
+use mathlib.Core.List.{[], _∷_}
+use Prim.Native.Nat.{ℕ, _+_, _-_, _≤_, _<_}
+use native.Mathlib.Omega.{arith}
+use lib.Dec.{eqb}
+use lib.ListN.{length, getD}
+use Rattle.card.proofs.Tests.{by-lt, by-eq, tests}
+use Rattle.sizes.specs.Moves.{takenOut, putIn, after, Falling}
+use Rattle.sizes.specs.Rows.{pairs}
+use Rattle.sizes.proofs.PairLaws.{taken-cases, taken-le, put-low, put-high, put-out, hold}
+use Rattle.sizes.proofs.PairFacts.{pair, pairs-one, in-list, falls}
+use Rattle.sizes.proofs.RowSkips.{first-bound}
+
+module _ (L : ℕ → ℕ) (n c l : ℕ) where
+  -- absent below size c, and at place l from there on
+  pub record Single : Type 0 where
+    pub some : 0 < c
+    pub in-sizes : c ≤ n
+    pub place : 0 < l
+    pub within : l ≤ c
+    pub low : (m : ℕ) → m < c → L m ≡ 0
+    pub high : (m : ℕ) → c ≤ m → m ≤ n → L m ≡ l
+
+  pub single : Falling L → c ≡ getD (pairs L n) 0 0 → l ≡ getD (pairs L n) 1 0 → 0 < c → getD (pairs L n) 2 0 ≡ 0 → Single
+  single fall ec el pos end =
+      let q = pair L n 0 (in-list L n 0 (omega arith)) in
+      let at : L c ≡ l = ap L ec ∙ sym (q .place) ∙ sym el in
+      let two : length (pairs L c) ≡ 2 = ap (λ (z : ℕ). length (pairs L z)) ec ∙ q .index in
+      let stop : getD (pairs L n) (length (pairs L c)) 0 ≡ 0 = ap (λ (z : ℕ). getD (pairs L n) z 0) two ∙ end in
+      record {
+        some = pos;
+        in-sizes = omega (arith, q .size);
+        place = omega (arith, q .present);
+        within = omega (arith, fall .fits c);
+        low = λ m h. by-lt 0 (L m) (λ lt. absurd (omega (arith, first-bound L n m fall (omega (arith, q .size)) lt .1))) (λ le. omega arith);
+        high = λ m h hm. hold L n c fall m h hm (inl stop) .1 ∙ at;
+      }
+
+module _ (J L : ℕ → ℕ) (p n j c l : ℕ) (pos : 0 < p) (fall : Falling J) (ej : j ≡ J n) (one : Single L n c l) where
+  pub single-pairs : pairs L n ≡ c ∷ l ∷ []
+  single-pairs = pairs-one L n c l (one .some) (one .in-sizes) (one .place) (one .low) (one .high)
+
+  -- where it is absent it stays so
+  after-low : (m : ℕ) → m < c → after J p L m ≡ 0
+  unfolding after
+  after-low m h =
+      let t : takenOut (J m) (L m) ≡ 0 = omega (arith, taken-le (J m) (L m), one .low m h) in
+      ap (putIn p m) t ∙ put-low p m 0 pos
+
+  after-high : (m x : ℕ) → c ≤ m → m ≤ n → takenOut (J m) l ≡ x → after J p L m ≡ putIn p m x
+  unfolding after
+  after-high m x a b e = ap (putIn p m) (ap (takenOut (J m)) (one .high m a b) ∙ e)
+
+  -- the block read is nowhere above it
+  taken-none : (j ≡ 0) ⊎ (l < j) → (m : ℕ) → m ≤ n → takenOut (J m) l ≡ l
+  taken-none h m hm = ⊎-elim (λ w. w .1)
+      (⊎-elim (λ w. let f = falls J fall m n hm (w .0) in absurd (⊎-elim (λ z. omega (arith, f .0)) (λ z. omega (arith, f .1)) h)) (λ w. w .2))
+      (taken-cases (J m) l)
+
+  -- it goes one place down the card, and out of a card that it was the last of
+  pub pairs-lowered : (j ≡ 0) ⊎ (l < j) → p ≤ l → l < n → pairs (after J p L) n ≡ cond (eqb c l) (c + 1) c ∷ (l + 1) ∷ []
+  pairs-lowered h pl ln = by-eq c l
+      (λ e. let le : c + 1 ≤ n = omega arith in simp tests (pairs-one (after J p L) n (c + 1) (l + 1) (omega arith) le (omega arith)
+      (λ m lt. by-lt m c (λ below. after-low m below) (λ ge. here m ge (omega (arith, one .in-sizes)) ∙ put-out p m l pl (omega arith)))
+      (λ m le hm. here m (omega arith) hm ∙ put-high p m l pl (omega arith))))
+      (λ ne. simp tests (pairs-one (after J p L) n c (l + 1) (one .some) (one .in-sizes) (omega arith)
+      after-low
+      (λ m le hm. here m le hm ∙ put-high p m l pl (omega (arith, one .within, ne)))))
+    where
+      here : (m : ℕ) → c ≤ m → m ≤ n → after J p L m ≡ putIn p m l
+      here m a b = after-high m l a b (taken-none h m b)
+
+  -- it goes one place up the card
+  pub pairs-raised : (x y : ℕ) → x ≡ getD (pairs J n) 0 0 → y ≡ getD (pairs J n) 1 0 → 0 < j → x ≤ c → y < l → l ≤ p → pairs (after J p L) n ≡ c ∷ (l - 1) ∷ []
+  pairs-raised x y ex ey pj xc yl lp =
+      pairs-one (after J p L) n c (l - 1) (one .some) (one .in-sizes) (omega (arith, above c (omega arith) (one .in-sizes))) after-low here
+    where
+      above : (m : ℕ) → c ≤ m → m ≤ n → (0 < J m) × (J m < l)
+      above m a b =
+          let d = first-bound J n n fall (omega arith) (omega arith) in
+          let f = falls J fall (getD (pairs J n) 0 0) m (omega arith) (omega (arith, d .2, d .3)) in
+          omega (arith, f .0, f .1, d .2)
+
+      here : (m : ℕ) → c ≤ m → m ≤ n → after J p L m ≡ l - 1
+      here m a b =
+          let t : takenOut (J m) l ≡ l - 1 = ⊎-elim (λ w. absurd (omega (arith, above m a b))) (⊎-elim (λ w. w .2) (λ w. absurd (omega (arith, above m a b)))) (taken-cases (J m) l) in
+          after-high m (l - 1) a b t ∙ put-low p m (l - 1) (omega (arith, one .place))

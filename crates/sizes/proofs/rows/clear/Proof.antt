@@ -1,0 +1,33 @@
+-- The row, lent as a part.
+use borrow.Author.Needs.{needs}
+use native.Mathlib.Omega.{arith}
+use mathlib.Core.Path.{_≡_, _∙_}
+use Prim.Native.Nat.{_+_, _-_}
+use lib.ListN.{length}
+use Rattle.sizes.proofs.RowParts.{put-kept, put-within, mid-length, mid-ends}
+use Rattle.sizes.proofs.rows.clear.Statement.{statement}
+use Rattle.sizes.proofs.rows.clear.Tie as tie
+
+returns : tie.Need-returns
+returns c =
+    let at = c .before .before .before .before .before .args in
+    let pre = c .before .before .before .before .before .pre in
+    let me = c .before .before .fill in
+    let ek : at .at + at .width - at .at ≡ at .width = omega arith in
+    let len : length (me .last .0) ≡ at .width = me .kept .0 ∙ mid-length (at .area .now) (at .at) (at .width) _ pre ek in (
+      put-kept (at .area .now) (me .last .0) (at .at) (at .width) _ pre ek len,
+      λ T n ew gt sl q hq. put-within (at .area .now) (me .last .0) (at .at) (at .width) _ pre ek len q hq ∙ me .ensures .1 (mid-ends (at .area .now) (at .at) (at .width) _ n T pre ek ew gt sl) q (omega arith),
+    )
+
+pub clear-spec : {M : Type 1} → statement M
+clear-spec =
+    tie.close
+    (tie.spec
+    (λ c. search needs)
+    (λ c. search needs)
+    (λ c. search needs)
+    (λ c. search needs)
+    (λ c. search needs)
+    (λ c κs. search needs)
+    (λ c. search needs)
+    returns)

@@ -1,0 +1,16 @@
+-- What each answer of the code says, in the table's numbers.
+use Prim.Native.Nat.{ℕ}
+use mathlib.Core.List.{List}
+use Rattle.terms.specs.Refusals.{numberOf}
+use Rattle.sizes.specs.Outcome as outcome
+use Rattle.sizes.specs.declared.run.Ran.{Ran}
+use Rattle.sizes.specs.declared.run.Ran.the-variants as the-ran
+
+-- the answer of the run
+abbrev pub ranAnswer : Ran → outcome.Answer
+ranAnswer (the-ran.Done reads total one) = outcome.Done reads total one
+ranAnswer (the-ran.Refused refusal place) = outcome.Refused (numberOf refusal) place
+
+-- the three lent areas
+abbrev pub areasOf : (blocks stretches counts : List ℕ) → outcome.Areas
+areasOf blocks stretches counts = record { blocks = blocks; stretches = stretches; counts = counts }

@@ -1,0 +1,9 @@
+pub mod Rows
+pub mod Moves
+pub mod Tallies
+pub mod Totals
+pub mod Outcome
+pub mod Lists
+pub mod TallySteps
+pub mod Passing
+pub mod Answers

@@ -1,0 +1,45 @@
+-- Where blocks stand after a read, at every size at once: what the crate's own functions promise each other.
+use Prim.Native.Nat.{ℕ, suc, _+_, _-_, _≤_, _<_}
+use mathlib.Core.Path.{_≡_}
+use mathlib.Core.Logic.{_⊎_}
+use mathlib.Core.Bool.{cond}
+use lib.Dec.{ltb, leb, eqb}
+
+-- the place of another block once the block at place j, 0 where it is absent, has been taken out
+abbrev pub takenOut : ℕ → ℕ → ℕ
+takenOut j l = cond (eqb j 0) l (cond (ltb j l) (l - 1) l)
+
+-- the place of a block of a card of size m once a block has been put in at p
+abbrev pub putIn : (p m l : ℕ) → ℕ
+putIn p m l = cond (ltb m p) l (cond (ltb l p) l (cond (ltb l m) (l + 1) 0))
+
+-- the places of another block after a read: J are those of the block that is read, L the other's
+unfoldable pub after : (ℕ → ℕ) → ℕ → (ℕ → ℕ) → ℕ → ℕ
+after J p L m = putIn p m (takenOut (J m) (L m))
+
+-- those of the block that was read
+unfoldable pub own : ℕ → ℕ → ℕ
+own p m = cond (leb p m) p 0
+
+-- a block's places: within the sizes, and once present, present at each larger size and no lower
+pub record Falling (places : ℕ → ℕ) : Type 0 where
+  pub fits : (m : ℕ) → places m ≤ m
+  pub falls : (m : ℕ) → 0 < places m → (0 < places (suc m)) × (places (suc m) ≤ places m)
+
+-- the old place, in the largest card, of what stands at place k after the read of a block at j
+unfoldable pub sourceOf : (p j k : ℕ) → ℕ
+sourceOf p j k = bumped j (cond (ltb p k) (k - 1) k)
+  where
+    bumped : ℕ → ℕ → ℕ
+    bumped j x = cond (eqb j 0) x (cond (ltb x j) x (x + 1))
+
+-- the blocks of a card by their places: each one's places at every size, with no block at place 0 or past the last
+pub record Family (L : ℕ → ℕ → ℕ) (n : ℕ) : Type 0 where
+  pub good : (k : ℕ) → Falling (L k)
+  pub none : (m : ℕ) → L 0 m ≡ 0
+  pub past : (m : ℕ) → L (n + 1) m ≡ 0
+  pub last : (k : ℕ) → (L k n ≡ k) ⊎ ((m : ℕ) → L k m ≡ 0)
+
+-- the places of what stands at place k after the read
+unfoldable pub newOf : (ℕ → ℕ) → (p j : ℕ) → (ℕ → ℕ → ℕ) → ℕ → ℕ → ℕ
+newOf J p j L k = cond (eqb k p) (own p) (after J p (L (sourceOf p j k)))

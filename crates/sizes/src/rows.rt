@@ -1,0 +1,664 @@
+// The rows of the stretch area: a list of stretches for each place of the largest card.
+use crate::numbers::larger;
+ghost use mathlib.Core.Path.{_≡_};
+ghost use mathlib.Core.Bool.{true, cond};
+ghost use mathlib.Core.List.{[], _∷_};
+ghost use mathlib.Core.Logic.{_⊎_};
+ghost use Prim.Native.Nat.{ℕ, suc, _+_, _-_, _*_, _^_, _<_, _≤_, min, max};
+ghost use lib.Dec.{ltb, eqb};
+ghost use lib.ListN.{length, getD};
+ghost use Rattle.terms.specs.Ranges.{size};
+ghost use Rattle.sizes.specs.Rows.{pairs, rowLength, Row};
+ghost use Rattle.sizes.specs.Moves.{takenOut, putIn, after, Falling, sourceOf, Family, newOf};
+ghost use Rattle.sizes.specs.Lists.{Holds, Begins, Ends, At, Level, Written, Kept, Turn, turnOf, turned, movedOf, leftOf, Counted, Found};
+ghost use Rattle.sizes.specs.Totals.{sumTo, mostTo};
+ghost use Rattle.card.specs.Stretches.{stretches};
+ghost use Rattle.card.specs.Stretches as card;
+
+// How the number of stretches changed, and the length of the longest list that was made.
+pub struct Changes {
+    pub gained: usize,
+    pub lost: usize,
+    pub longest: usize,
+}
+
+// A cursor into a list of stretches: the entries passed, and the place now in force.
+pub struct Cursor {
+    pub passed: usize,
+    pub place: u16,
+}
+
+// The place of another block once the block at place j has been taken out.
+fn taken_out(j: u16, l: u16) -> u16
+    ensures { λ r. ⌜ r ≡ takenOut j l ⌝ }
+{
+    if j == 0 {
+        return l;
+    }
+    if j < l {
+        return l - 1;
+    }
+    l
+}
+
+// The place of a block of a card of size m once a block has been put in at p.
+fn put_in(p: u16, m: u16, l: u16) -> u16
+    ensures { λ r. ⌜ r ≡ putIn p m l ⌝ }
+{
+    if m < p {
+        return l;
+    }
+    if l < p {
+        return l;
+    }
+    if l < m {
+        return l + 1;
+    }
+    0
+}
+
+// The new place of a block at place l of a card of size m.
+fn new_place(j: u16, p: u16, m: u16, l: u16) -> u16
+    ensures { λ r. ⌜ r ≡ putIn p m (takenOut j l) ⌝ }
+{
+    put_in(p, m, taken_out(j, l))
+}
+
+// The entry at i, 0 past the end.
+fn entry(list: &[u16], i: usize) -> u16
+    ensures { λ r. ⌜ r ≡ getD (now (list .entry)) i 0 ⌝ }
+{
+    if i < list.len() {
+        return list[i];
+    }
+    0
+}
+
+// The cursor at size s, from the cursor at the size before.
+fn advance(list: &[u16], cursor: Cursor, s: u16) -> Cursor
+    ensures { λ r. ⌜ ((J : ℕ → ℕ) (n t : ℕ) → Falling J → Begins (now (list .entry)) J n → s ≡ suc t → s ≤ n → At J t (cursor .passed) (cursor .place) → At J s (r .passed) (r .place)) ⌝ }
+{
+    let i = cursor.passed;
+    if i < list.len() {
+        if list[i] == s {
+            return Cursor {
+                passed: i + 2,
+                place: entry(list, i + 1),
+            };
+        }
+    }
+    cursor
+}
+
+// The last size before the next stretch: n where there is none.
+fn until(list: &[u16], i: usize, s: u16, n: u16) -> u16
+    requires { ⌜ s ≤ n ⌝ }
+    ensures range { λ r. ⌜ (s ≤ r) × (r ≤ n) ⌝ }
+    ensures level { λ r. ⌜ ((J : ℕ → ℕ) → Falling J → Begins (now (list .entry)) J n → i ≡ length (pairs J s) → Level J s r) ⌝ }
+{
+    let first = entry(list, i);
+    if s < first {
+        if first <= n {
+            return first - 1;
+        }
+    }
+    n
+}
+
+// The last size up to which both lists stand still.
+fn both_until(list: &[u16], other: &[u16], i: usize, k: usize, s: u16, n: u16) -> u16
+    requires { ⌜ s ≤ n ⌝ }
+    ensures range { λ r. ⌜ (s ≤ r) × (r ≤ n) ⌝ }
+    ensures first { λ r. ⌜ ((J : ℕ → ℕ) → Falling J → Begins (now (list .entry)) J n → i ≡ length (pairs J s) → Level J s r) ⌝ }
+    ensures second { λ r. ⌜ ((L : ℕ → ℕ) → Falling L → Begins (now (other .entry)) L n → k ≡ length (pairs L s) → Level L s r) ⌝ }
+{
+    let x = until(list, i, s, n);
+    let y = until(other, k, s, n);
+    if x < y {
+        return x;
+    }
+    y
+}
+
+// The last size up to which the new place stands still too: a block that is pushed out of size s may stay in the next.
+fn new_until(list: &[u16], other: &[u16], i: usize, k: usize, s: u16, n: u16, l: u16, r: u16) -> u16
+    requires { ⌜ s ≤ n ⌝ }
+    ensures range { λ e. ⌜ (s ≤ e) × (e ≤ n) ⌝ }
+    ensures level { λ e. ⌜ ((J L : ℕ → ℕ) (p : ℕ) → 0 < p → Falling J → Falling L → Begins (now (list .entry)) J n → Begins (now (other .entry)) L n → At J s i (J s) → At L s k l → r ≡ after J p L s → Level J s e × Level L s e × Level (after J p L) s e) ⌝ }
+{
+    if l == 0 {
+        return both_until(list, other, i, k, s, n);
+    }
+    if r == 0 {
+        return s;
+    }
+    both_until(list, other, i, k, s, n)
+}
+
+// Writes the stretch that begins at s, where one does.
+fn push(out: &mut [u16], q: usize, s: u16, r: u16, last: u16) -> usize
+    requires { ⌜ q ≤ length (now out) ⌝ }
+    ensures range { λ x. ⌜ (q ≤ x) × (x ≤ length (now (out .entry))) × ((y : ℕ) → x ≤ y → getD (now (out .exit)) y 0 ≡ getD (now (out .entry)) y 0) ⌝ }
+    ensures written { λ x. ⌜ ((R : ℕ → ℕ) (t : ℕ) → s ≡ suc t → r ≡ R s → last ≡ R t → length (pairs R s) ≤ length (now (out .entry)) → Written (now (out .entry)) q R t → Written (now (out .exit)) x R s) ⌝ }
+{
+    if r == 0 {
+        return q;
+    }
+    if r == last {
+        return q;
+    }
+    if out.len() - q < 2 {
+        return q;
+    }
+    out[q] = s;
+    out[q + 1] = r;
+    q + 2
+}
+
+// Zeros from q on. What follows the first zero is zero already.
+fn fill(out: &mut [u16], q: usize)
+    ensures { λ _. ⌜ ((x : ℕ) → x < q → getD (now (out .exit)) x 0 ≡ getD (now (out .entry)) x 0) × (Ends (now (out .entry)) q → (x : ℕ) → q ≤ x → getD (now (out .exit)) x 0 ≡ 0) ⌝ }
+{
+    let mut x = q;
+    while x < out.len() {
+        if out[x] == 0 {
+            return;
+        }
+        out[x] = 0;
+        x += 1;
+    }
+}
+
+// The stretches of another block after a read at p, from the list of the block read and its own; answers how many entries they are.
+fn merge(list: &[u16], other: &[u16], out: &mut [u16], p: u16, n: u16) -> usize
+    requires { ⌜ 0 < p ⌝ }
+    ensures range { λ x. ⌜ x ≤ length (now (out .entry)) ⌝ }
+    ensures merged { λ x. ⌜ ((J L : ℕ → ℕ) → Falling J → Falling L → Begins (now (list .entry)) J n → Begins (now (other .entry)) L n → Ends (now (out .entry)) 0 → length (pairs (after J p L) n) ≤ length (now (out .entry)) → (x ≡ length (pairs (after J p L) n)) × Holds (now (out .exit)) (after J p L) n) ⌝ }
+{
+    let mut t: u16 = 0;
+    let mut q: usize = 0;
+    let mut last: u16 = 0;
+    let mut x = Cursor {
+        passed: 0,
+        place: 0,
+    };
+    let mut y = Cursor {
+        passed: 0,
+        place: 0,
+    };
+    while t < n {
+        let s = t + 1;
+        x = advance(list, x, s);
+        y = advance(other, y, s);
+        let r = new_place(x.place, p, s, y.place);
+        q = push(out, q, s, r, last);
+        last = r;
+        t = new_until(list, other, x.passed, y.passed, s, n, y.place, r);
+    }
+    fill(out, q);
+    q
+}
+
+// Copies a list, and a zero after it; answers how many entries it has.
+fn copy_list(row: &[u16], out: &mut [u16]) -> usize
+    requires { ⌜ length (now row) < length (now out) ⌝ }
+    ensures range { λ x. ⌜ x ≤ length (now (row .entry)) ⌝ }
+    ensures begins { λ x. ⌜ ((R : ℕ → ℕ) (n : ℕ) → Holds (now (row .entry)) R n → (x ≡ length (pairs R n)) × Begins (now (out .exit)) R n) ⌝ }
+    ensures beyond { λ x. ⌜ ((y : ℕ) → x < y → getD (now (out .exit)) y 0 ≡ getD (now (out .entry)) y 0) ⌝ }
+{
+    let mut x = 0;
+    while x < row.len() {
+        let v = row[x];
+        out[x] = v;
+        if v == 0 {
+            return x;
+        }
+        x += 1;
+    }
+    out[x] = 0;
+    x
+}
+
+// The same of the row from an index of the area on.
+fn copy_row(area: &[u16], at: usize, width: usize, out: &mut [u16]) -> usize
+    requires { ⌜ (at + width ≤ length (now area)) × (width < length (now out)) ⌝ }
+    ensures range { λ x. ⌜ x ≤ width ⌝ }
+    ensures begins { λ x. ⌜ ((R : ℕ → ℕ) (n : ℕ) → width ≡ rowLength n → Falling R → Row (now (area .entry)) at width (pairs R n) → (x ≡ length (pairs R n)) × Begins (now (out .exit)) R n) ⌝ }
+    ensures beyond { λ x. ⌜ ((y : ℕ) → x < y → getD (now (out .exit)) y 0 ≡ getD (now (out .entry)) y 0) ⌝ }
+{
+    let end = at + width;
+    copy_list(&area[at..end], out)
+}
+
+fn row_length(n: usize) -> usize
+    requires { ⌜ n < 2 ^ 63 ⌝ }
+    ensures { λ r. ⌜ r ≡ rowLength n ⌝ }
+{
+    2 * ((n + 1) / 2)
+}
+
+// Copies the list of the block at place j up to its end, none where j is 0.
+pub fn load(stretches: &[u16], n: usize, j: usize, out: &mut [u16])
+    requires { ⌜ (j ≤ n) × (n * rowLength n ≤ length (now stretches)) × (rowLength n + 2 ≤ length (now out)) × ((x : ℕ) → getD (now out) x 0 ≡ 0) ⌝ }
+    ensures { λ _. ⌜ ((L : ℕ → ℕ) → Falling L → (j ≡ 0 → L n ≡ 0) → (0 < j → Row (now (stretches .entry)) ((j - 1) * rowLength n) (rowLength n) (pairs L n)) → (q : ℕ) → getD (now (out .exit)) q 0 ≡ getD (pairs L n) q 0) ⌝ }
+{
+    if j == 0 {
+        return;
+    }
+    let width = row_length(n);
+    let count = copy_row(stretches, (j - 1) * width, width, out);
+}
+
+// The row from an index on gets the stretches of a block whose list was the other.
+fn renew(
+    area: &mut [u16],
+    at: usize,
+    width: usize,
+    list: &[u16],
+    other: &[u16],
+    p: u16,
+    n: u16,
+) -> usize
+    requires { ⌜ (0 < p) × (width ≡ rowLength n) × (at + width ≤ length (now area)) ⌝ }
+    ensures kept { λ x. ⌜ (x ≤ width) × Kept (now (area .entry)) (now (area .exit)) at width ⌝ }
+    ensures holds { λ x. ⌜ ((J L T : ℕ → ℕ) → Falling J → Falling L → Falling T → Begins (now (list .entry)) J n → Begins (now (other .entry)) L n → Row (now (area .entry)) at width (pairs T n) → (x ≡ length (pairs (after J p L) n)) × Row (now (area .exit)) at width (pairs (after J p L) n)) ⌝ }
+{
+    let end = at + width;
+    merge(list, other, &mut area[at..end], p, n)
+}
+
+// A list of one stretch.
+fn write_pair(out: &mut [u16], first: u16, place: u16)
+    requires { ⌜ 2 ≤ length (now out) ⌝ }
+    ensures { λ _. ⌜ ((R : ℕ → ℕ) (n : ℕ) → pairs R n ≡ first ∷ place ∷ [] → Ends (now (out .entry)) 0 → Holds (now (out .exit)) R n) ⌝ }
+{
+    out[0] = first;
+    out[1] = place;
+    fill(out, 2);
+}
+
+// The row from an index on gets one stretch.
+fn renew_pair(area: &mut [u16], at: usize, width: usize, first: u16, place: u16)
+    requires { ⌜ (2 ≤ width) × (at + width ≤ length (now area)) ⌝ }
+    ensures kept { λ _. ⌜ Kept (now (area .entry)) (now (area .exit)) at width ⌝ }
+    ensures holds { λ _. ⌜ ((R T : ℕ → ℕ) (n : ℕ) → width ≡ rowLength n → Falling T → pairs R n ≡ first ∷ place ∷ [] → Row (now (area .entry)) at width (pairs T n) → Row (now (area .exit)) at width (pairs R n)) ⌝ }
+{
+    let end = at + width;
+    write_pair(&mut area[at..end], first, place);
+}
+
+// The row from an index on gets no stretch.
+fn clear(area: &mut [u16], at: usize, width: usize)
+    requires { ⌜ at + width ≤ length (now area) ⌝ }
+    ensures kept { λ _. ⌜ Kept (now (area .entry)) (now (area .exit)) at width ⌝ }
+    ensures holds { λ _. ⌜ ((T : ℕ → ℕ) (n : ℕ) → width ≡ rowLength n → Falling T → Row (now (area .entry)) at width (pairs T n) → (q : ℕ) → q < width → getD (now (area .exit)) (at + q) 0 ≡ 0) ⌝ }
+{
+    let end = at + width;
+    fill(&mut area[at..end], 0);
+}
+
+// Past the place that the block read left.
+fn past_read(j: u16, x: u16) -> u16
+    requires { ⌜ x < 65535 ⌝ }
+    ensures { λ r. ⌜ r ≡ cond (eqb j 0) x (cond (ltb x j) x (x + 1)) ⌝ }
+{
+    if j == 0 {
+        return x;
+    }
+    if x < j {
+        return x;
+    }
+    x + 1
+}
+
+// The old place of what stands at place k after the read.
+fn source(p: u16, j: u16, k: u16) -> u16
+    requires { ⌜ k < 65535 ⌝ }
+    ensures { λ r. ⌜ r ≡ sourceOf p j k ⌝ }
+{
+    if p < k {
+        return past_read(j, k - 1);
+    }
+    past_read(j, k)
+}
+
+// All of a block's places, the largest of which is l, are above p and above those of the block read.
+fn is_above(l: u16, p: u16, j: u16) -> bool
+    ensures { λ r. ⌜ (r ≡ true → (l < p) × ((j ≡ 0) ⊎ (l < j))) ⌝ }
+{
+    if p <= l {
+        return false;
+    }
+    if j == 0 {
+        return true;
+    }
+    l < j
+}
+
+// All of a block's places, the least of which is k, are below p and below those of the block read, which is wherever the other is.
+fn is_below(first: u16, start: u16, place: u16, k: u16, p: u16, j: u16) -> bool
+    ensures { λ r. ⌜ (r ≡ true → (0 < j) × (start ≤ first) × (p < k) × (place < k)) ⌝ }
+{
+    if j == 0 {
+        return false;
+    }
+    if first < start {
+        return false;
+    }
+    if k <= p {
+        return false;
+    }
+    place < k
+}
+
+// The row of place k keeps its list.
+fn stays(area: &[u16], width: usize, list: &[u16], k: u16, n: u16, p: u16, j: u16) -> bool
+    requires { ⌜ Turn n (length (now area)) width (length (now list)) k p ⌝ }
+    ensures { λ r. ⌜ (r ≡ true → (J : ℕ → ℕ) (L : ℕ → ℕ → ℕ) → Falling J → Family L n → j ≡ J n → Begins (now (list .entry)) J n → Row (now (area .entry)) ((k - 1) * width) width (pairs (L k) n) → ((k ≡ p → ⊥) × (sourceOf p j k ≡ k) × ((m : ℕ) → m ≤ n → after J p (L k) m ≡ L k m))) ⌝ }
+{
+    if k == p {
+        return false;
+    }
+    let s = source(p, j, k);
+    if s < k {
+        return false;
+    }
+    if k < s {
+        return false;
+    }
+    let at = ((k - 1) as usize) * width;
+    if is_above(area[at + 1], p, j) {
+        return true;
+    }
+    is_below(area[at], list[0], list[1], k, p, j)
+}
+
+// One stretch: its first size and its place. A first size of 0 is none.
+pub struct Stretch {
+    pub first: u16,
+    pub place: u16,
+}
+
+// The third entry of a row's list.
+fn third_entry(area: &[u16], at: usize, width: usize) -> u16
+    requires { ⌜ at + width ≤ length (now area) ⌝ }
+    ensures { λ r. ⌜ ((R : ℕ → ℕ) (n : ℕ) → width ≡ rowLength n → Falling R → Row (now (area .entry)) at width (pairs R n) → r ≡ getD (pairs R n) 2 0) ⌝ }
+{
+    if 2 < width {
+        return area[at + 2];
+    }
+    0
+}
+
+// A block whose one stretch is at place l from a first size on goes one place down the card: the block read is put in above it, and was not above it.
+fn lowered(first: u16, l: u16, n: u16, p: u16, j: u16) -> Stretch
+    requires { ⌜ n < 65535 ⌝ }
+    ensures { λ r. ⌜ (0 < r .first → (p ≤ l) × (l < n) × ((j ≡ 0) ⊎ (l < j)) × (r .first ≡ cond (eqb first l) (first + 1) first) × (r .place ≡ l + 1)) ⌝ }
+{
+    if l < p {
+        return Stretch { first: 0, place: 0 };
+    }
+    if n <= l {
+        return Stretch { first: 0, place: 0 };
+    }
+    if 0 < j {
+        if j <= l {
+            return Stretch { first: 0, place: 0 };
+        }
+    }
+    if first == l {
+        return Stretch {
+            first: first + 1,
+            place: l + 1,
+        };
+    }
+    Stretch {
+        first: first,
+        place: l + 1,
+    }
+}
+
+// It goes one place up the card: the block read, whose list begins with start and place, was above it wherever it is, and is put in below it.
+fn raised(first: u16, l: u16, start: u16, place: u16, p: u16, j: u16) -> Stretch
+    ensures { λ r. ⌜ (0 < r .first → (0 < j) × (start ≤ first) × (place < l) × (l ≤ p) × (r .first ≡ first) × (r .place ≡ l - 1)) ⌝ }
+{
+    if j == 0 {
+        return Stretch { first: 0, place: 0 };
+    }
+    if first < start {
+        return Stretch { first: 0, place: 0 };
+    }
+    if p < l {
+        return Stretch { first: 0, place: 0 };
+    }
+    if place < l {
+        return Stretch {
+            first: first,
+            place: l - 1,
+        };
+    }
+    Stretch { first: 0, place: 0 }
+}
+
+// The new list of a row that holds one stretch, where it is plain; most are.
+fn moved_pair(
+    area: &[u16],
+    at: usize,
+    width: usize,
+    list: &[u16],
+    n: u16,
+    p: u16,
+    j: u16,
+) -> Stretch
+    requires { ⌜ (0 < p) × (n < 65535) × (width ≡ rowLength n) × (2 ≤ width) × (at + width ≤ length (now area)) × (2 ≤ length (now list)) ⌝ }
+    ensures { λ r. ⌜ (0 < r .first → (J L : ℕ → ℕ) → Falling J → Falling L → j ≡ J n → Begins (now (list .entry)) J n → Row (now (area .entry)) at width (pairs L n) → (length (pairs L n) ≡ 2) × (pairs (after J p L) n ≡ r .first ∷ r .place ∷ [])) ⌝ }
+{
+    let first = area[at];
+    let l = area[at + 1];
+    if first == 0 {
+        return Stretch { first: 0, place: 0 };
+    }
+    if 0 < third_entry(area, at, width) {
+        return Stretch { first: 0, place: 0 };
+    }
+    let low = lowered(first, l, n, p, j);
+    if 0 < low.first {
+        return low;
+    }
+    raised(first, l, list[0], list[1], p, j)
+}
+
+// The row of place k gets its new list.
+fn renew_row(
+    area: &mut [u16],
+    width: usize,
+    list: &[u16],
+    scratch: &mut [u16],
+    k: u16,
+    n: u16,
+    p: u16,
+    j: u16,
+) -> Changes
+    requires { ⌜ Turn n (length (now area)) width (length (now list)) k p × (width < length (now scratch)) ⌝ }
+    ensures kept { λ r. ⌜ (r .gained ≤ width) × (r .lost ≤ width) × Kept (now (area .entry)) (now (area .exit)) ((k - 1) * width) width ⌝ }
+    ensures holds { λ r. ⌜ ((J : ℕ → ℕ) (L : ℕ → ℕ → ℕ) → Falling J → Family L n → j ≡ J n → Begins (now (list .entry)) J n → Row (now (area .entry)) ((k - 1) * width) width (pairs (L k) n) → ((k ≡ p → ⊥) → sourceOf p j k ≤ n → Row (now (area .entry)) ((sourceOf p j k - 1) * width) width (pairs (L (sourceOf p j k)) n)) → Row (now (area .exit)) ((k - 1) * width) width (pairs (newOf J p j L k) n) × Counted (r .gained) (r .lost) (r .longest) (movedOf (λ i. stretches (L i) n) p j k) (stretches (newOf J p j L k) n) (stretches (L k) n)) ⌝ }
+{
+    let at = ((k - 1) as usize) * width;
+    if k == p {
+        renew_pair(area, at, width, p, p);
+        return Changes {
+            gained: 1,
+            lost: 0,
+            longest: 1,
+        };
+    }
+    let s = source(p, j, k);
+    if n < s {
+        clear(area, at, width);
+        return Changes {
+            gained: 0,
+            lost: 0,
+            longest: 0,
+        };
+    }
+    let from = ((s - 1) as usize) * width;
+    let pair = moved_pair(area, from, width, list, n, p, j);
+    if 0 < pair.first {
+        renew_pair(area, at, width, pair.first, pair.place);
+        return Changes {
+            gained: 1,
+            lost: 1,
+            longest: 1,
+        };
+    }
+    let old = copy_row(area, from, width, scratch) / 2;
+    let new = renew(area, at, width, list, scratch, p, n) / 2;
+    Changes {
+        gained: new,
+        lost: old,
+        longest: new,
+    }
+}
+
+// The row of place k gets its new list, where that is another.
+fn renew_or_not(
+    area: &mut [u16],
+    width: usize,
+    list: &[u16],
+    scratch: &mut [u16],
+    k: u16,
+    n: u16,
+    p: u16,
+    j: u16,
+) -> Changes
+    requires { ⌜ Turn n (length (now area)) width (length (now list)) k p × (width < length (now scratch)) ⌝ }
+    ensures kept { λ r. ⌜ (r .gained ≤ width) × (r .lost ≤ width) × Kept (now (area .entry)) (now (area .exit)) ((k - 1) * width) width ⌝ }
+    ensures holds { λ r. ⌜ ((J : ℕ → ℕ) (L : ℕ → ℕ → ℕ) → Falling J → Family L n → j ≡ J n → Begins (now (list .entry)) J n → Row (now (area .entry)) ((k - 1) * width) width (pairs (L k) n) → ((k ≡ p → ⊥) → sourceOf p j k ≤ n → Row (now (area .entry)) ((sourceOf p j k - 1) * width) width (pairs (L (sourceOf p j k)) n)) → Row (now (area .exit)) ((k - 1) * width) width (pairs (newOf J p j L k) n) × Counted (r .gained) (r .lost) (r .longest) (movedOf (λ i. stretches (L i) n) p j k) (stretches (newOf J p j L k) n) (stretches (L k) n)) ⌝ }
+{
+    if stays(area, width, list, k, n, p, j) {
+        return Changes {
+            gained: 0,
+            lost: 0,
+            longest: 0,
+        };
+    }
+    renew_row(area, width, list, scratch, k, n, p, j)
+}
+
+// The place whose row is renewed at turn t: no row before its source's is overwritten.
+fn order(t: u16, n: u16, p: u16, j: u16) -> u16
+    requires { ⌜ t < n ⌝ }
+    ensures { λ k. ⌜ (0 < k) × (k ≤ n) × (turnOf n p j k ≡ t) × (k ≡ turned n p j (t + 1)) ⌝ }
+{
+    if j == 0 {
+        return n - t;
+    }
+    if j < p {
+        return t + 1;
+    }
+    n - t
+}
+
+// Both changes together.
+fn with(changes: Changes, more: Changes) -> Changes
+    requires { ⌜ (changes .gained + more .gained < 2 ^ 64) × (changes .lost + more .lost < 2 ^ 64) ⌝ }
+    ensures { λ r. ⌜ (r .gained ≡ changes .gained + more .gained) × (r .lost ≡ changes .lost + more .lost) × (r .longest ≡ max (changes .longest) (more .longest)) ⌝ }
+{
+    Changes {
+        gained: changes.gained + more.gained,
+        lost: changes.lost + more.lost,
+        longest: larger(changes.longest, more.longest),
+    }
+}
+
+// All rows, one turn each.
+fn renew_rows(
+    area: &mut [u16],
+    width: usize,
+    list: &[u16],
+    n: u16,
+    p: u16,
+    j: u16,
+    lost: usize,
+) -> Changes
+    requires { ⌜ (0 < n) × (n < 1000) × (0 < p) × (width ≡ rowLength n) × (width < 130) × (n * width ≤ length (now area)) × (2 ≤ length (now list)) × (lost < 1000) ⌝ }
+    ensures rows { λ r. ⌜ ((J : ℕ → ℕ) (L : ℕ → ℕ → ℕ) → Falling J → Family L n → j ≡ J n → Begins (now (list .entry)) J n → ((k : ℕ) → 1 ≤ k → k ≤ n → Row (now (area .entry)) ((k - 1) * width) width (pairs (L k) n)) → (k : ℕ) → 1 ≤ k → k ≤ n → Row (now (area .exit)) ((k - 1) * width) width (pairs (newOf J p j L k) n)) ⌝ }
+    ensures counted { λ r. ⌜ ((J : ℕ → ℕ) (L : ℕ → ℕ → ℕ) → Falling J → Family L n → j ≡ J n → Begins (now (list .entry)) J n → ((k : ℕ) → 1 ≤ k → k ≤ n → Row (now (area .entry)) ((k - 1) * width) width (pairs (L k) n)) → (r .gained + lost + sumTo n (movedOf (λ i. stretches (L i) n) p j) ≡ r .lost + sumTo n (λ k. stretches (newOf J p j L k) n)) × ((B : ℕ) → ((k : ℕ) → 1 ≤ k → k ≤ n → stretches (L k) n ≤ B) → max B (r .longest) ≡ max B (mostTo n (λ k. stretches (newOf J p j L k) n)))) ⌝ }
+    ensures small { λ r. ⌜ r .gained < 2 ^ 32 ⌝ }
+{
+    let mut scratch = [0u16; 130];
+    let mut changes = Changes {
+        gained: 0,
+        lost: lost,
+        longest: 0,
+    };
+    let mut t: u16 = 0;
+    while t < n {
+        let k = order(t, n, p, j);
+        let more = renew_or_not(area, width, list, &mut scratch, k, n, p, j);
+        changes = with(changes, more);
+        t = t + 1;
+    }
+    changes
+}
+
+// How many entries a list has.
+fn count_entries(list: &[u16], width: usize) -> usize
+    requires { ⌜ width ≤ length (now list) ⌝ }
+    ensures range { λ x. ⌜ x ≤ width ⌝ }
+    ensures counted { λ x. ⌜ ((R : ℕ → ℕ) (n : ℕ) → width ≡ rowLength n → Falling R → Begins (now (list .entry)) R n → x ≡ length (pairs R n)) ⌝ }
+{
+    let mut x = 0;
+    while x < width {
+        if list[x] == 0 {
+            return x;
+        }
+        x += 1;
+    }
+    x
+}
+
+// The stretches that leave beside what moves: those of the block read, or of a block that is pushed out of the largest card, which has one at most.
+fn leaving(area: &[u16], width: usize, list: &[u16], n: u16, p: u16, j: u16) -> usize
+    requires { ⌜ (0 < n) × (width ≡ rowLength n) × ((n - 1) * width + width ≤ length (now area)) × (width ≤ length (now list)) ⌝ }
+    ensures range { λ x. ⌜ x ≤ width ⌝ }
+    ensures left { λ x. ⌜ ((J : ℕ → ℕ) (L : ℕ → ℕ → ℕ) → Falling J → Family L n → j ≡ J n → Begins (now (list .entry)) J n → Row (now (area .entry)) ((n - 1) * width) width (pairs (L n) n) → x ≡ leftOf (λ k. stretches (L k) n) (stretches J n) n p j) ⌝ }
+{
+    if 0 < j {
+        return count_entries(list, width) / 2;
+    }
+    if n < p {
+        return 0;
+    }
+    if area[((n - 1) as usize) * width] == 0 {
+        return 0;
+    }
+    1
+}
+
+// A priority past the last place is as good as the next one.
+fn priority_of(p: usize, n: usize) -> u16
+    requires { ⌜ n < 65535 ⌝ }
+    ensures { λ r. ⌜ r ≡ min p (n + 1) ⌝ }
+{
+    if n < p {
+        return (n + 1) as u16;
+    }
+    p as u16
+}
+
+// All rows after a read at p of the block whose list is given, and which stood at place j of the largest card.
+pub fn renew_all(stretches: &mut [u16], list: &[u16], n: usize, p: usize, j: usize) -> Changes
+    requires { ⌜ (1 ≤ n) × (n ≤ size .largest) × (1 ≤ p) × (j ≤ n) × (rowLength n + 2 ≤ length (now list)) × (n * rowLength n ≤ length (now stretches)) ⌝ }
+    ensures rows { λ r. ⌜ ((J : ℕ → ℕ) (L : ℕ → ℕ → ℕ) → Found (now (list .entry)) (now (stretches .entry)) n j J L → (k : ℕ) → 1 ≤ k → k ≤ n → Row (now (stretches .exit)) ((k - 1) * rowLength n) (rowLength n) (pairs (newOf J p j L k) n)) ⌝ }
+    ensures changes { λ r. ⌜ ((J : ℕ → ℕ) (L : ℕ → ℕ → ℕ) → Found (now (list .entry)) (now (stretches .entry)) n j J L → r .gained + sumTo n (λ k. card.stretches (L k) n) ≡ r .lost + sumTo n (λ k. card.stretches (newOf J p j L k) n)) ⌝ }
+    ensures longest { λ r. ⌜ ((J : ℕ → ℕ) (L : ℕ → ℕ → ℕ) → Found (now (list .entry)) (now (stretches .entry)) n j J L → (B : ℕ) → ((k : ℕ) → 1 ≤ k → k ≤ n → card.stretches (L k) n ≤ B) → max B (r .longest) ≡ max B (mostTo n (λ k. card.stretches (newOf J p j L k) n))) ⌝ }
+    ensures small { λ r. ⌜ r .gained < 2 ^ 32 ⌝ }
+{
+    let width = row_length(n);
+    let last = n as u16;
+    let priority = priority_of(p, n);
+    let place = j as u16;
+    let lost = leaving(stretches, width, list, last, priority, place);
+    renew_rows(stretches, width, list, last, priority, place, lost)
+}

@@ -1,0 +1,191 @@
+// The run over a trace: header, room, and then the records, for all sizes at once.
+use crate::engine::Sums;
+use crate::engine::read;
+use crate::tallies::finish;
+use card::places::key_of;
+use terms::Refusal;
+use trace::header::Header;
+use trace::header::read_header;
+use trace::record::Record;
+use trace::record::read_record;
+ghost use mathlib.Core.Path.{_≡_};
+ghost use mathlib.Core.Bool.{_&&_};
+ghost use mathlib.Core.List.{List};
+ghost use Prim.Native.Nat.{_≤_};
+ghost use lib.Dec.{leb};
+ghost use lib.ListN.{length};
+ghost use Rattle.terms.specs.Ranges.{size};
+ghost use Rattle.terms.specs.Reads.{Read};
+ghost use Rattle.trace.specs.Reading.{Reading};
+ghost use Rattle.trace.specs.Trace.{readsFrom};
+ghost use Rattle.sizes.specs.Outcome.{blocksLength, stretchesLength, countsLength, zeros, runOf};
+ghost use Rattle.sizes.specs.Passing.{answered, counted, TalliedBy};
+ghost use Rattle.sizes.specs.Answers.{ranAnswer, areasOf};
+
+pub enum Ran {
+    // The reads, and the peaks of the stretches of all blocks and of one.
+    Done { reads: u64, total: u64, one: u64 },
+    // Why, and the offset of the number at fault.
+    Refused(Refusal, usize),
+}
+
+// What an area held before a run, or of a refused one, is of no use to anyone: it becomes zeros.
+fn clear_numbers(area: &mut [u64])
+    ensures { λ _. ⌜ now (area .exit) ≡ zeros (length (now (area .entry))) ⌝ }
+{
+    let mut i = 0;
+    while i < area.len() {
+        area[i] = 0;
+        i += 1;
+    }
+}
+
+// The same for the stretch area.
+fn clear_pairs(area: &mut [u16])
+    ensures { λ _. ⌜ now (area .exit) ≡ zeros (length (now (area .entry))) ⌝ }
+{
+    let mut i = 0;
+    while i < area.len() {
+        area[i] = 0;
+        i += 1;
+    }
+}
+
+// The records from a place to the end, each read at all sizes, from areas that no read has touched.
+fn records(
+    trace: &[u8],
+    start: usize,
+    blocks: &mut [u64],
+    stretches: &mut [u16],
+    counts: &mut [u64],
+    n: usize,
+) -> Ran
+    requires { ⌜ (1 ≤ n) × (n ≤ size .largest) × (start ≤ length (now trace))
+        × (now blocks ≡ zeros n) × (now stretches ≡ zeros (stretchesLength n)) × (now counts ≡ zeros (countsLength n)) ⌝ }
+    ensures { λ r. ⌜ (ranAnswer r ≡ answered n (readsFrom (length (now (trace .entry))) (now (trace .entry)) start))
+        × TalliedBy n (readsFrom (length (now (trace .entry))) (now (trace .entry)) start) (now (counts .exit)) ⌝ }
+{
+    let mut at = start;
+    let mut reads: u64 = 0;
+    let mut sums = Sums {
+        now: 0,
+        most: 0,
+        one: 0,
+    };
+    while at < trace.len() {
+        match read_record(&trace[at..]) {
+            Record::Read {
+                volume,
+                block,
+                priority,
+                length,
+            } => {
+                let key = key_of(volume, block);
+                sums = read(blocks, stretches, counts, n, key, priority as usize, sums);
+                reads += 1;
+                at += length;
+            }
+            Record::Refused(why, place) => {
+                return Ran::Refused(why, at + place);
+            }
+        }
+    }
+    Ran::Done {
+        reads,
+        total: sums.most as u64,
+        one: sums.one as u64,
+    }
+}
+
+// The tallies become the counts of the records that were read, or zeros where one was refused.
+fn settle(counts: &mut [u64], n: usize, ran: Ran)
+    requires { ⌜ (length (now counts) ≡ countsLength n) × ((x : Reading (List Read)) × (ranAnswer ran ≡ answered n x) × TalliedBy n x (now counts)) ⌝ }
+    ensures { λ _. ⌜ ((x : Reading (List Read)) → ranAnswer ran ≡ answered n x → TalliedBy n x (now (counts .entry)) → now (counts .exit) ≡ counted n x) ⌝ }
+{
+    match ran {
+        Ran::Done {
+            reads,
+            total: _,
+            one: _,
+        } => finish(counts, n, reads),
+        Ran::Refused(_, _) => clear_numbers(counts),
+    }
+}
+
+// The pass over the records, on areas of exactly the lengths that a size asks for: whatever they hold, they are cleared before it, and all but the counts of accepted records after it.
+fn pass(
+    trace: &[u8],
+    start: usize,
+    blocks: &mut [u64],
+    stretches: &mut [u16],
+    counts: &mut [u64],
+    n: usize,
+) -> Ran
+    requires { ⌜ (1 ≤ n) × (n ≤ size .largest) × (start ≤ length (now trace))
+        × (length (now blocks) ≡ n) × (length (now stretches) ≡ stretchesLength n) × (length (now counts) ≡ countsLength n) ⌝ }
+    ensures { λ r. ⌜ (ranAnswer r ≡ answered n (readsFrom (length (now (trace .entry))) (now (trace .entry)) start))
+        × (now (blocks .exit) ≡ zeros n) × (now (stretches .exit) ≡ zeros (stretchesLength n))
+        × (now (counts .exit) ≡ counted n (readsFrom (length (now (trace .entry))) (now (trace .entry)) start)) ⌝ }
+{
+    clear_numbers(blocks);
+    clear_pairs(stretches);
+    clear_numbers(counts);
+    let ran = records(trace, start, blocks, stretches, counts, n);
+    clear_numbers(blocks);
+    clear_pairs(stretches);
+    settle(counts, n, ran);
+    ran
+}
+
+// The length of the stretch area for a size.
+fn stretches_length(n: usize) -> usize
+    requires { ⌜ n ≤ size .largest ⌝ }
+    ensures { λ r. ⌜ r ≡ stretchesLength n ⌝ }
+{
+    2 * n * ((n + 1) / 2)
+}
+
+// Whether areas of some lengths are long enough for a size.
+fn is_room(n: usize, blocks: usize, stretches: usize, counts: usize) -> bool
+    requires { ⌜ n ≤ size .largest ⌝ }
+    ensures { λ r. ⌜ r ≡ leb (blocksLength n) blocks && (leb (stretchesLength n) stretches && leb (countsLength n) counts) ⌝ }
+{
+    if blocks < n {
+        return false;
+    }
+    if stretches < stretches_length(n) {
+        return false;
+    }
+    6 * n <= counts
+}
+
+// Reads a whole trace. A refusal before the first record leaves the areas untouched; what lies past the lengths that the size asks for stays as it was.
+pub fn run(trace: &[u8], blocks: &mut [u64], stretches: &mut [u16], counts: &mut [u64]) -> Ran
+    ensures { λ r. ⌜ (ranAnswer r ≡ runOf (now (trace .entry)) (areasOf (now (blocks .entry)) (now (stretches .entry)) (now (counts .entry))) .answer)
+        × (now (blocks .exit) ≡ runOf (now (trace .entry)) (areasOf (now (blocks .entry)) (now (stretches .entry)) (now (counts .entry))) .areas .blocks)
+        × (now (stretches .exit) ≡ runOf (now (trace .entry)) (areasOf (now (blocks .entry)) (now (stretches .entry)) (now (counts .entry))) .areas .stretches)
+        × (now (counts .exit) ≡ runOf (now (trace .entry)) (areasOf (now (blocks .entry)) (now (stretches .entry)) (now (counts .entry))) .areas .counts) ⌝ }
+{
+    match read_header(trace) {
+        Header::Accepted {
+            edition: _,
+            size,
+            length,
+        } => {
+            let n = size as usize;
+            if !is_room(n, blocks.len(), stretches.len(), counts.len()) {
+                return Ran::Refused(Refusal::Room, 0);
+            }
+            let end = stretches_length(n);
+            pass(
+                trace,
+                length,
+                &mut blocks[..n],
+                &mut stretches[..end],
+                &mut counts[..6 * n],
+                n,
+            )
+        }
+        Header::Refused(why, place) => Ran::Refused(why, place),
+    }
+}

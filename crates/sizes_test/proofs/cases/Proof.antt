@@ -1,0 +1,30 @@
+-- `sizes_test::cases` ends: each turn takes at least one byte. Assumes nothing.
+use Prim.Native.Nat.{_-_, _≤_}
+use native.Mathlib.Omega.{arith}
+use lib.ListN.{length, length-drop}
+use borrow.Author.Needs.{needs}
+use Rattle.sizes_test.proofs.cases.Statement.{statement}
+use Rattle.sizes_test.proofs.cases.Tie as tie
+
+abbrev Inv-loop : tie.InvT-loop
+Inv-loop bytes at₀ at = at ≤ length bytes
+
+abbrev μ-loop : tie.MeasureT-loop
+μ-loop bytes at₀ at = length bytes - at
+
+pub cases-spec : {M : Type 1} → statement M
+cases-spec =
+    tie.close
+    (tie.spec
+    Inv-loop
+    μ-loop
+    (λ c. search needs)
+    (λ c. search needs)
+    (λ c. search needs)
+    (λ c. search needs)
+    (λ c κs. search needs)
+    (λ c. search needs)
+    (λ c. search needs)
+    (λ c. search needs)
+    (λ c. search needs)
+    (λ c. search needs))
