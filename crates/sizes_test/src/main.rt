@@ -68,6 +68,14 @@ fn changed_numbers(area: &[u64], value: u64) -> usize {
     changed
 }
 
+// The numbers up to the last one that is another than the value that filled the area.
+fn say_written(area: &[u64], value: u64) {
+    let changed = changed_numbers(area, value);
+    if changed <= area.len() {
+        say_numbers(&area[..changed]);
+    }
+}
+
 fn say_answer(answer: Ran) {
     match answer {
         Ran::Done { reads, total, one } => {
@@ -150,7 +158,7 @@ fn run_case(trace: &[u8], lent: Lengths, value: u8) {
     say_changed_numbers(&blocks, value as u64);
     say_changed_pairs(&stretches, value as u16);
     say(b" counts");
-    say_numbers(&counts);
+    say_written(&counts, value as u64);
     say(b"\n");
 }
 

@@ -1,7 +1,6 @@
 -- `sizes_test::cases` ends: each turn takes at least one byte. Assumes nothing.
 use Prim.Native.Nat.{_-_, _≤_}
-use native.Mathlib.Omega.{arith}
-use lib.ListN.{length, length-drop}
+use lib.ListN.{length}
 use borrow.Author.Needs.{needs}
 use Rattle.sizes_test.proofs.cases.Statement.{statement}
 use Rattle.sizes_test.proofs.cases.Tie as tie

@@ -1,7 +1,5 @@
 -- `sizes_test::changed_pairs` ends and reads only its slice. Assumes nothing.
 use Prim.Native.Nat.{_-_, _≤_}
-use native.Mathlib.Omega.{arith}
-use mathlib.Core.Logic.{⊎-elim}
 use lib.ListN.{length}
 use borrow.Author.Needs.{needs}
 use Rattle.sizes_test.proofs.changed_pairs.Statement.{statement}

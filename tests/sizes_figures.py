@@ -1,0 +1,58 @@
+"""Works out crates/sizes_test's stored cases and each line of its output by tests/sizes_rule.py.
+
+The gate compares the output with what the proved run answers and leaves, so the two meet in it. The sheet of the
+description's worked trace stands here as the description gives it.
+"""
+import sys
+
+import compare
+import sizes_rule as rule
+import trace_format as form
+
+WORKED = bytes.fromhex('0103010a01010b02010c03010a03010b03010d02010c04010d01')
+SHEET = 'done 8 3 2 3 0 12 0 counts 0 0 0 1 2 5 1 0 0 2 3 2 0 1 2 1 4 0'
+PAPER = ((1, 2), (2, 2), (3, 5), (4, 1), (2, 6), (4, 6), (1, 4), (3, 1), (1, 4))
+REFUSED = ('', '0100', '018001', '0200', '0103808004', '0103010a', '0103010a00', '0103010aff7f', '0103010a808001', '0103010a8000', '018000')
+
+cases = []
+
+
+def case(data, lent, value=9):
+    cases.append((data, lent, value))
+
+
+def trace(size, reads):
+    return b''.join(map(form.spell, (1, size, *(number for read in reads for number in read))))
+
+
+def fill():
+    case(WORKED, rule.stated(3))
+    case(WORKED, [length + 2 for length in rule.stated(3)])
+    for short in range(3):
+        case(WORKED, [length - (short == area) for area, length in enumerate(rule.stated(3))])
+    # after each read of the paper's trace the peaks tell its spans
+    for time in range(len(PAPER) + 1):
+        case(trace(7, [(0, block, priority) for block, priority in PAPER[:time]]), rule.stated(7))
+    for size in (4, 5, 6):
+        case(trace(size, [(0, block, priority) for block, priority in PAPER]), rule.stated(size))
+    case(trace(2, ((1, 7, 1), (2, 7, 1))), rule.stated(2))
+    case(trace(3, ((0, 10, 3), (0, 11, 3))), rule.stated(3))
+    for text in REFUSED:
+        case(bytes.fromhex(text), rule.stated(3))
+    # a fault after reads leaves zeros, whatever the reads left
+    case(WORKED + b'\x01', rule.stated(3))
+    case(WORKED + bytes.fromhex('010a00'), rule.stated(3), 255)
+    case(trace(127, ((65535, 2 ** 32 - 1, 127), (0, 0, 16383))), rule.stated(127))
+
+
+fill()
+given = b''.join(rule.packed(*each) for each in cases)
+stored = (compare.CRATES / 'sizes_test' / 'stdin').read_bytes()
+if given != stored:
+    print('the stored cases are others\n0 passed, 1 failed')
+    sys.exit(1)
+lines = [rule.expected(*each) for each in cases]
+if lines[0] != SHEET:
+    print('the worked trace gives %s\n0 passed, 1 failed' % lines[0])
+    sys.exit(1)
+sys.exit(compare.report(lines, 'sizes_test'))
