@@ -1,21 +1,17 @@
 -- The tallies against the separate runs: after a read, and as sums at the end.
-use mathlib.Core.Path.{_≡_, refl, sym, ap, _∙_}
+use mathlib.Core.Path.{_≡_, ap, _∙_}
 use mathlib.Core.Bool.{cond}
 use mathlib.Core.List.{List, [], _∷_, _++_}
-use Prim.Native.Nat.{ℕ, zero, suc, _+_, _-_, _*_, _/_, _%_, _≤_, _<_}
+use Prim.Native.Nat.{ℕ, _+_, _≤_}
 use native.Mathlib.Omega.{arith}
-use native.Mathlib.Nat.{add-zero}
 use lib.Dec.{eqb}
-use lib.ListN.{length, getD, drop, length-append, length-drop, List·getD-append}
-use lib.Seq.{ext-getD, getD-append-add, getD-drop}
+use lib.ListN.{length, length-append}
 use Rattle.terms.specs.Reads.{Read}
 use Rattle.card.specs.Rule.{place, outcomeOn}
 use Rattle.card.specs.Run.{blockRead, wanted, empty, next, run, cardAfter, outcomes, occurrences, count}
-use Rattle.card.proofs.Tests.{by-lt, by-eq}
 use Rattle.card.proofs.Inclusion.{length-card}
-use Rattle.sizes.specs.Tallies.{upTo, Tallied, isOutcome}
-use Rattle.sizes.specs.TallySteps.{ReadTallied, Summing, Finished}
-use Rattle.sizes.specs.Outcome.{countsOf, fronted, zeros}
+use Rattle.sizes.specs.Tallies.{Tallied, isOutcome}
+use Rattle.sizes.specs.TallySteps.{ReadTallied, Summing}
 
 length-more : (rs : List Read) (r : Read) → length (rs ++ (r ∷ [])) ≡ length rs + 1
 length-more rs r = length-append rs (r ∷ [])

@@ -1,15 +1,12 @@
 -- The blocks of the largest card after reads, by their places: each one's places over all sizes.
-use mathlib.Core.Path.{_≡_, refl, sym, ap, subst, _∙_}
+use mathlib.Core.Path.{_≡_, refl, ap, _∙_}
 use mathlib.Core.Logic.{_≢_, _⊎_, inl, inr}
-use mathlib.Core.Bool.{true, cond}
 use mathlib.Core.List.{List}
-use Prim.Native.Nat.{ℕ, zero, suc, _+_, _-_, _≤_, _<_}
+use Prim.Native.Nat.{ℕ, zero, suc, _≤_, _<_}
 use native.Mathlib.Omega.{arith}
 use native.Mathlib.Numerals.{add-one}
-use lib.Dec.{eqb}
-use lib.ListN.{length, getD, List·getD-eq-default}
+use lib.ListN.{getD, List·getD-eq-default}
 use Rattle.terms.specs.Reads.{Read}
-use Rattle.card.specs.Rule.{place}
 use Rattle.card.specs.Run.{cardAfter}
 use Rattle.card.specs.Stretches.{placesOf}
 use Rattle.card.proofs.Tests.{by-lt, by-eq, tests}

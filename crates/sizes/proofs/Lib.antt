@@ -1,3 +1,4 @@
+pub mod Widths
 pub mod PairLists
 pub mod PairLaws
 pub mod PairFacts
@@ -19,7 +20,6 @@ pub mod CountCells
 pub mod CountTurns
 pub mod CountLaws
 pub mod ReadLaws
-pub mod Scratch
 pub mod Figures
 pub mod PassClears
 pub mod PassRecords

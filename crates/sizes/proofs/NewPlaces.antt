@@ -1,14 +1,10 @@
 -- What stands at each place of the largest card after one read more, and its places at every size.
-use mathlib.Core.Path.{_≡_, refl, sym, ap, subst, _∙_}
+use mathlib.Core.Path.{_≡_, refl, sym, ap, _∙_}
 use mathlib.Core.Logic.{_≢_}
-use mathlib.Core.Bool.{true, cond}
 use mathlib.Core.List.{List, [], _∷_, _++_}
 use Prim.Native.Nat.{ℕ, zero, suc, _+_, _-_, _≤_, _<_}
 use native.Mathlib.Omega.{arith}
-use lib.Dec.{ltb, leb, eqb}
-use lib.ListN.{length, getD}
 use Rattle.terms.specs.Reads.{Read}
-use Rattle.card.specs.Rule.{place}
 use Rattle.card.specs.Run.{blockRead, wanted, cardAfter}
 use Rattle.card.specs.Stretches.{placesOf}
 use Rattle.card.proofs.Tests.{by-lt, by-eq, tests}

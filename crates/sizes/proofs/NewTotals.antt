@@ -1,16 +1,15 @@
 -- The total of stretches and the two peaks after one read more.
 use mathlib.Core.Path.{_≡_, refl, sym, ap, ap₂, _∙_}
-use mathlib.Core.Logic.{_≢_}
 use mathlib.Core.Bool.{cond}
 use mathlib.Core.List.{List, [], _∷_, _++_, append-assoc}
-use Prim.Native.Nat.{ℕ, zero, suc, _+_, _-_, _*_, _≤_, _<_, max}
+use Prim.Native.Nat.{ℕ, zero, suc, _+_, _-_, _*_, _≤_, max}
 use native.Mathlib.Omega.{arith}
 use lib.Dec.{eqb}
 use lib.ListN.{length, getD}
 use Rattle.terms.specs.Reads.{Read}
 use Rattle.card.specs.Run.{blockRead, wanted, cardAfter}
-use Rattle.card.specs.Stretches.{placesOf, starts, stretches, sumOver, largestOver, total, mostOfOne, largestAfter, peakTotal, peakOfOne, half}
-use Rattle.card.proofs.Tests.{by-lt, by-eq, tests}
+use Rattle.card.specs.Stretches.{placesOf, stretches, sumOver, largestOver, total, mostOfOne, largestAfter, peakOfOne, half}
+use Rattle.card.proofs.Tests.{by-eq, tests}
 use Rattle.card.proofs.StretchBounds.{stretches-half}
 use Rattle.card.proofs.Inclusion.{length-card}
 use Rattle.card.proofs.Totals.{total-places, most-places}

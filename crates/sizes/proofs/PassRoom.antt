@@ -9,11 +9,7 @@ use borrow.Author.Tests.{lt-leb, le-leb}
 use Rattle.terms.specs.Ranges.{size}
 use Rattle.card.specs.Stretches.{half}
 use Rattle.sizes.specs.Outcome.{blocksLength, stretchesLength, countsLength}
-
--- a size fits 16 bits
-pub size-small : (n : ℕ) → n ≤ size .largest → n < 2 ^ 16
-unfolding size
-size-small n h = omega arith
+use Rattle.sizes.proofs.Widths.{size-small}
 
 pub stretches-small : (n : ℕ) → n ≤ size .largest → stretchesLength n < 2 ^ 40
 stretches-small n h =

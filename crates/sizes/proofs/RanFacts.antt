@@ -12,7 +12,7 @@ use Rattle.terms.specs.Ranges.{size}
 use Rattle.terms.specs.Reads.{Read}
 use Rattle.terms.proofs.Refusals.{one-refusal}
 use Rattle.trace.specs.Reading.{Reading, Given, Refused, Header, headerAt}
-use Rattle.trace.specs.Trace.{readsFrom, Trace, traceOf}
+use Rattle.trace.specs.Trace.{andThen, readsFrom, Trace, traceOf}
 use Rattle.card.specs.Run.{count}
 use Rattle.card.specs.Stretches.{placesOf, stretches, blocksOf, total, mostOfOne, largestAfter, peakTotal, peakOfOne, half}
 use Rattle.card.proofs.Tests.{by-lt}
@@ -70,6 +70,30 @@ module _ (bytes : List ℕ) (areas : Areas) (reads total one : ℕ) where
   pub done-accepted : runOf bytes areas .answer ≡ outcome.Done reads total one → Accepted bytes areas reads total one
   unfolding runOf
   done-accepted d = after-header (headerAt bytes 0) refl d
+
+-- ---- and every trace with enough room is accepted, whatever blocks it names
+
+module _ (bytes : List ℕ) (areas : Areas) (t : Trace) (end : ℕ) where
+  abbrev Finishes : Outcome → Type 0
+  Finishes o = o .answer ≡ outcome.Done (length (t .reads)) (peakTotal (t .header .size) (t .reads)) (peakOfOne (t .header .size) (t .reads))
+
+  given-records : (h : Header) (x : Reading (List Read)) → andThen x (λ rs at₁. Given (record { header = h; reads = rs }) at₁) ≡ Given t end
+      → isRoom (t .header .size) areas ≡ true
+      → Finishes (cond (isRoom (h .size) areas) (recorded (h .size) areas x) (outcome.untouched (numberOf Room) 0 areas))
+  given-records h (Given rs at) e room =
+      let same : record { header = h; reads = rs } ≡ t = cc in
+      let fits : isRoom (h .size) areas ≡ true = ap (λ (u : Trace). isRoom (u .header .size) areas) same ∙ room in
+      rw fits (ap (λ (u : Trace). outcome.Done (length (u .reads)) (peakTotal (u .header .size) (u .reads)) (peakOfOne (u .header .size) (u .reads))) same)
+  given-records h (Refused number place) e room = let z : _≡_ {A = ℕ} 0 1 = cc in absurd (omega arith)
+
+  given-header : (x : Reading Header) → andThen x (λ h at. andThen (readsFrom (length bytes) bytes at) (λ rs at₁. Given (record { header = h; reads = rs }) at₁)) ≡ Given t end
+      → isRoom (t .header .size) areas ≡ true → Finishes (headed bytes areas x)
+  given-header (Given h at) e room = given-records h (readsFrom (length bytes) bytes at) e room
+  given-header (Refused number place) e room = let z : _≡_ {A = ℕ} 0 1 = cc in absurd (omega arith)
+
+  pub accepted-done : traceOf bytes ≡ Given t end → isRoom (t .header .size) areas ≡ true → Finishes (runOf bytes areas)
+  unfolding traceOf runOf
+  accepted-done e room = given-header (headerAt bytes 0) e room
 
 -- ---- the counts of an accepted trace
 

@@ -1,15 +1,14 @@
 -- One read on the areas: what its steps are told, and what they leave together.
 use mathlib.Core.Path.{_≡_, refl, sym, ap, ap₂, subst, _∙_}
-use mathlib.Core.Logic.{_≢_}
 use mathlib.Core.List.{List, [], _∷_, _++_}
 use Prim.Native.Nat.{ℕ, zero, suc, _+_, _-_, _*_, _/_, _%_, _≤_, _<_, max}
 use native.Mathlib.Nat.{div-add-mod'}
 use native.Mathlib.Omega.{arith}
-use lib.ListN.{length, getD}
+use lib.ListN.{getD}
 use Rattle.terms.specs.Ranges.{block}
 use Rattle.terms.specs.Reads.{Read, readOf}
 use Rattle.card.specs.Rule.{keyOf, place, afterRead}
-use Rattle.card.specs.Run.{blockRead, wanted, cardAfter}
+use Rattle.card.specs.Run.{blockRead, wanted}
 use Rattle.card.specs.Stretches.{placesOf, stretches, peakOfOne}
 use Rattle.card.proofs.Inclusion.{key-some}
 use Rattle.card.proofs.NextPlaces.{run-more}

@@ -11,7 +11,6 @@ use lib.Dec.{eqb, ltb}
 use lib.ListN.{getD}
 use borrow.Author.Tests.{lt-ltb, le-ltb, eq-eqb, ne-eqb}
 use Rattle.sizes.specs.Moves.{takenOut, putIn, after, own, sourceOf, newOf}
-use Rattle.terms.specs.Ranges.{size}
 use Rattle.sizes.specs.Rows.{pairs, Row}
 use Rattle.sizes.specs.Lists.{Kept, turnOf}
 use Rattle.sizes.proofs.PairLaws.{lt-cases, eq-cases, level-pairs, pairs-zero, taken-le, put-low}
@@ -134,8 +133,3 @@ turn-lt n p j k h hn = ⊎-elim (λ u. omega (arith, turn-up n p j k (u .0) (u .
 -- a place of the area is an index, and there is no room for more places than that
 pub rows-fit : (n w x : ℕ) → 2 ≤ w → n * w ≤ x → 2 * n ≤ x
 rows-fit n w x h le = omega (arith, mul-le-mul-left n h)
-
--- the one place where the largest size is a number: sizes and places fit 16 bits, and a row an array
-pub size-low : (n : ℕ) → n ≤ size .largest → n ≤ 127
-unfolding size
-size-low n h = h

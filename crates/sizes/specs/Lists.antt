@@ -5,8 +5,10 @@ use mathlib.Core.List.{List}
 use Prim.Native.Nat.{ℕ, _+_, _-_, _*_, _≤_, _<_, max}
 use lib.Dec.{eqb, ltb}
 use lib.ListN.{getD, length}
-use Rattle.sizes.specs.Moves.{Falling, Family, sourceOf}
+use Rattle.card.specs.Stretches.{stretches}
+use Rattle.sizes.specs.Moves.{Falling, Family, sourceOf, newOf}
 use Rattle.sizes.specs.Rows.{pairs, rowLength, Row}
+use Rattle.sizes.specs.Totals.{sumTo, mostTo}
 
 -- a slice holds the stretches of R, and zeros from there on
 abbrev pub Holds : List ℕ → (ℕ → ℕ) → ℕ → Type 0
@@ -73,6 +75,24 @@ pub record Counted (gained lost longest old new before : ℕ) : Type 0 where
   pub balance : gained + old ≡ lost + new
   pub most : (B : ℕ) → before ≤ B → max B longest ≡ max B new
 
+-- the rows of an area hold the lists of all blocks
+abbrev pub RowsOf : (area : List ℕ) (width n : ℕ) → (ℕ → ℕ → ℕ) → Type 0
+RowsOf area width n L = (k : ℕ) → 1 ≤ k → k ≤ n → Row area ((k - 1) * width) width (pairs (L k) n)
+
+-- the turn of place k: its row gets the list of what stands there after the read, from the row of where that stood, and the changes count it
+abbrev pub RowRenewed : (entry exit list : List ℕ) (width n k p j gained lost longest : ℕ) → Type 0
+RowRenewed entry exit list width n k p j gained lost longest =
+    (J : ℕ → ℕ) (L : ℕ → ℕ → ℕ) → Falling J → Family L n → j ≡ J n → Begins list J n → Row entry ((k - 1) * width) width (pairs (L k) n)
+    → ((k ≡ p → ⊥) → sourceOf p j k ≤ n → Row entry ((sourceOf p j k - 1) * width) width (pairs (L (sourceOf p j k)) n))
+    → Row exit ((k - 1) * width) width (pairs (newOf J p j L k) n)
+    × Counted gained lost longest (movedOf (λ i. stretches (L i) n) p j k) (stretches (newOf J p j L k) n) (stretches (L k) n)
+
+-- all turns together: the stretches gained and lost beside those that leave, and the longest list that was made
+abbrev pub AllCounted : (n p j leaving gained lost longest : ℕ) (J : ℕ → ℕ) (L : ℕ → ℕ → ℕ) → Type 0
+AllCounted n p j leaving gained lost longest J L =
+    (gained + leaving + sumTo n (movedOf (λ i. stretches (L i) n) p j) ≡ lost + sumTo n (λ k. stretches (newOf J p j L k) n))
+    × ((B : ℕ) → ((k : ℕ) → 1 ≤ k → k ≤ n → stretches (L k) n ≤ B) → max B longest ≡ max B (mostTo n (λ k. stretches (newOf J p j L k) n)))
+
 -- what a read finds: the places of the block read, which is at place j of the largest card, in the list, and those of all blocks of the card in the rows
 pub record Found (list area : List ℕ) (n j : ℕ) (J : ℕ → ℕ) (L : ℕ → ℕ → ℕ) : Type 0 where
   pub falling : Falling J
@@ -80,4 +100,4 @@ pub record Found (list area : List ℕ) (n j : ℕ) (J : ℕ → ℕ) (L : ℕ �
   pub there : j ≡ J n
   pub same : 0 < j → (m : ℕ) → L j m ≡ J m
   pub listed : Holds list J n
-  pub rows : (k : ℕ) → 1 ≤ k → k ≤ n → Row area ((k - 1) * rowLength n) (rowLength n) (pairs (L k) n)
+  pub rows : RowsOf area (rowLength n) n L

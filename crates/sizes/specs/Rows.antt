@@ -4,7 +4,7 @@ use mathlib.Core.Path.{_≡_}
 use mathlib.Core.Bool.{cond}
 use mathlib.Core.List.{List, [], _∷_, _++_}
 use lib.Dec.{eqb}
-use lib.ListN.{length, getD}
+use lib.ListN.{getD}
 use Rattle.terms.specs.Reads.{Read}
 use Rattle.card.specs.Run.{cardAfter}
 use Rattle.card.specs.Stretches.{placesOf, starts, half}

@@ -1,5 +1,5 @@
 -- The numbers that are kept beside the areas: the total of stretches, and the two peaks so far.
-use Prim.Native.Nat.{ℕ, zero, suc, _+_, _≤_, max}
+use Prim.Native.Nat.{ℕ, zero, suc, _+_, max}
 use mathlib.Core.Path.{_≡_}
 use mathlib.Core.List.{List}
 use Rattle.terms.specs.Reads.{Read}

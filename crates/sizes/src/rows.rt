@@ -10,7 +10,7 @@ ghost use lib.ListN.{length, getD};
 ghost use Rattle.terms.specs.Ranges.{size};
 ghost use Rattle.sizes.specs.Rows.{pairs, rowLength, Row};
 ghost use Rattle.sizes.specs.Moves.{takenOut, putIn, after, Falling, sourceOf, Family, newOf};
-ghost use Rattle.sizes.specs.Lists.{Holds, Begins, Ends, At, Level, Written, Kept, Turn, turnOf, turned, movedOf, leftOf, Counted, Found};
+ghost use Rattle.sizes.specs.Lists.{Holds, Begins, Ends, At, Level, Written, Kept, Turn, turnOf, turned, leftOf, RowsOf, RowRenewed, AllCounted, Found};
 ghost use Rattle.sizes.specs.Totals.{sumTo, mostTo};
 ghost use Rattle.card.specs.Stretches.{stretches};
 ghost use Rattle.card.specs.Stretches as card;
@@ -481,7 +481,7 @@ fn renew_row(
 ) -> Changes
     requires { ⌜ Turn n (length (now area)) width (length (now list)) k p × (width < length (now scratch)) ⌝ }
     ensures kept { λ r. ⌜ (r .gained ≤ width) × (r .lost ≤ width) × Kept (now (area .entry)) (now (area .exit)) ((k - 1) * width) width ⌝ }
-    ensures holds { λ r. ⌜ ((J : ℕ → ℕ) (L : ℕ → ℕ → ℕ) → Falling J → Family L n → j ≡ J n → Begins (now (list .entry)) J n → Row (now (area .entry)) ((k - 1) * width) width (pairs (L k) n) → ((k ≡ p → ⊥) → sourceOf p j k ≤ n → Row (now (area .entry)) ((sourceOf p j k - 1) * width) width (pairs (L (sourceOf p j k)) n)) → Row (now (area .exit)) ((k - 1) * width) width (pairs (newOf J p j L k) n) × Counted (r .gained) (r .lost) (r .longest) (movedOf (λ i. stretches (L i) n) p j k) (stretches (newOf J p j L k) n) (stretches (L k) n)) ⌝ }
+    ensures holds { λ r. ⌜ RowRenewed (now (area .entry)) (now (area .exit)) (now (list .entry)) width n k p j (r .gained) (r .lost) (r .longest) ⌝ }
 {
     let at = ((k - 1) as usize) * width;
     if k == p {
@@ -533,7 +533,7 @@ fn renew_or_not(
 ) -> Changes
     requires { ⌜ Turn n (length (now area)) width (length (now list)) k p × (width < length (now scratch)) ⌝ }
     ensures kept { λ r. ⌜ (r .gained ≤ width) × (r .lost ≤ width) × Kept (now (area .entry)) (now (area .exit)) ((k - 1) * width) width ⌝ }
-    ensures holds { λ r. ⌜ ((J : ℕ → ℕ) (L : ℕ → ℕ → ℕ) → Falling J → Family L n → j ≡ J n → Begins (now (list .entry)) J n → Row (now (area .entry)) ((k - 1) * width) width (pairs (L k) n) → ((k ≡ p → ⊥) → sourceOf p j k ≤ n → Row (now (area .entry)) ((sourceOf p j k - 1) * width) width (pairs (L (sourceOf p j k)) n)) → Row (now (area .exit)) ((k - 1) * width) width (pairs (newOf J p j L k) n) × Counted (r .gained) (r .lost) (r .longest) (movedOf (λ i. stretches (L i) n) p j k) (stretches (newOf J p j L k) n) (stretches (L k) n)) ⌝ }
+    ensures holds { λ r. ⌜ RowRenewed (now (area .entry)) (now (area .exit)) (now (list .entry)) width n k p j (r .gained) (r .lost) (r .longest) ⌝ }
 {
     if stays(area, width, list, k, n, p, j) {
         return Changes {
@@ -582,8 +582,8 @@ fn renew_rows(
     lost: usize,
 ) -> Changes
     requires { ⌜ (0 < n) × (n < 1000) × (0 < p) × (width ≡ rowLength n) × (width < 130) × (n * width ≤ length (now area)) × (2 ≤ length (now list)) × (lost < 1000) ⌝ }
-    ensures rows { λ r. ⌜ ((J : ℕ → ℕ) (L : ℕ → ℕ → ℕ) → Falling J → Family L n → j ≡ J n → Begins (now (list .entry)) J n → ((k : ℕ) → 1 ≤ k → k ≤ n → Row (now (area .entry)) ((k - 1) * width) width (pairs (L k) n)) → (k : ℕ) → 1 ≤ k → k ≤ n → Row (now (area .exit)) ((k - 1) * width) width (pairs (newOf J p j L k) n)) ⌝ }
-    ensures counted { λ r. ⌜ ((J : ℕ → ℕ) (L : ℕ → ℕ → ℕ) → Falling J → Family L n → j ≡ J n → Begins (now (list .entry)) J n → ((k : ℕ) → 1 ≤ k → k ≤ n → Row (now (area .entry)) ((k - 1) * width) width (pairs (L k) n)) → (r .gained + lost + sumTo n (movedOf (λ i. stretches (L i) n) p j) ≡ r .lost + sumTo n (λ k. stretches (newOf J p j L k) n)) × ((B : ℕ) → ((k : ℕ) → 1 ≤ k → k ≤ n → stretches (L k) n ≤ B) → max B (r .longest) ≡ max B (mostTo n (λ k. stretches (newOf J p j L k) n)))) ⌝ }
+    ensures rows { λ r. ⌜ ((J : ℕ → ℕ) (L : ℕ → ℕ → ℕ) → Falling J → Family L n → j ≡ J n → Begins (now (list .entry)) J n → RowsOf (now (area .entry)) width n L → RowsOf (now (area .exit)) width n (newOf J p j L)) ⌝ }
+    ensures counted { λ r. ⌜ ((J : ℕ → ℕ) (L : ℕ → ℕ → ℕ) → Falling J → Family L n → j ≡ J n → Begins (now (list .entry)) J n → RowsOf (now (area .entry)) width n L → AllCounted n p j lost (r .gained) (r .lost) (r .longest) J L) ⌝ }
     ensures small { λ r. ⌜ r .gained < 2 ^ 32 ⌝ }
 {
     let mut scratch = [0u16; 130];
@@ -650,7 +650,7 @@ fn priority_of(p: usize, n: usize) -> u16
 // All rows after a read at p of the block whose list is given, and which stood at place j of the largest card.
 pub fn renew_all(stretches: &mut [u16], list: &[u16], n: usize, p: usize, j: usize) -> Changes
     requires { ⌜ (1 ≤ n) × (n ≤ size .largest) × (1 ≤ p) × (j ≤ n) × (rowLength n + 2 ≤ length (now list)) × (n * rowLength n ≤ length (now stretches)) ⌝ }
-    ensures rows { λ r. ⌜ ((J : ℕ → ℕ) (L : ℕ → ℕ → ℕ) → Found (now (list .entry)) (now (stretches .entry)) n j J L → (k : ℕ) → 1 ≤ k → k ≤ n → Row (now (stretches .exit)) ((k - 1) * rowLength n) (rowLength n) (pairs (newOf J p j L k) n)) ⌝ }
+    ensures rows { λ r. ⌜ ((J : ℕ → ℕ) (L : ℕ → ℕ → ℕ) → Found (now (list .entry)) (now (stretches .entry)) n j J L → RowsOf (now (stretches .exit)) (rowLength n) n (newOf J p j L)) ⌝ }
     ensures changes { λ r. ⌜ ((J : ℕ → ℕ) (L : ℕ → ℕ → ℕ) → Found (now (list .entry)) (now (stretches .entry)) n j J L → r .gained + sumTo n (λ k. card.stretches (L k) n) ≡ r .lost + sumTo n (λ k. card.stretches (newOf J p j L k) n)) ⌝ }
     ensures longest { λ r. ⌜ ((J : ℕ → ℕ) (L : ℕ → ℕ → ℕ) → Found (now (list .entry)) (now (stretches .entry)) n j J L → (B : ℕ) → ((k : ℕ) → 1 ≤ k → k ≤ n → card.stretches (L k) n ≤ B) → max B (r .longest) ≡ max B (mostTo n (λ k. card.stretches (newOf J p j L k) n))) ⌝ }
     ensures small { λ r. ⌜ r .gained < 2 ^ 32 ⌝ }

@@ -1,7 +1,7 @@
 // The counts area: six tallies for each size until the end, and then the six counts.
 use crate::numbers::larger;
 ghost use mathlib.Core.Path.{_≡_};
-ghost use Prim.Native.Nat.{ℕ, _+_, _*_, _^_, _<_, _≤_, max};
+ghost use Prim.Native.Nat.{ℕ, _+_, _*_, _^_, _<_, _≤_};
 ghost use lib.ListN.{length, getD};
 ghost use Rattle.sizes.specs.Moves.{Falling};
 ghost use Rattle.sizes.specs.TallySteps.{bumped, begun, Listed, Passed, Begins, ReadTallied, Summing, Finished, More, Small, Ordered, Written};

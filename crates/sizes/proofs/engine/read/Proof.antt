@@ -1,19 +1,12 @@
 -- `sizes::engine::read` meets its contract: its steps together are one read more, by the laws of `ReadLaws`. Assumes nothing.
-use mathlib.Core.Path.{_≡_, sym, ap, _∙_}
-use mathlib.Core.List.{List}
-use Prim.Native.Nat.{ℕ, _≤_, _<_}
+use mathlib.Core.Path.{sym, ap, _∙_}
 use native.Mathlib.Omega.{arith}
 use borrow.Author.Needs.{needs}
-use lib.ListN.{length}
 use Rattle.card.specs.Rule.{afterRead}
-use Rattle.card.specs.Run.{blockRead}
-use Rattle.card.specs.Stretches.{placesOf}
 use Rattle.card.proofs.OutcomeCases.{place-in}
-use Rattle.sizes.specs.Rows.{rowLength}
-use Rattle.sizes.proofs.Families.{family, family-is}
 use Rattle.sizes.proofs.NewTotals.{total-low}
 use Rattle.sizes.proofs.ReadLaws.{some-read, found, held-more, tallies-more, sums-more}
-use Rattle.sizes.proofs.Scratch.{list-room, rows-fill}
+use Rattle.sizes.proofs.Widths.{list-room, rows-fill}
 use Rattle.sizes.proofs.engine.read.Statement.{statement}
 use Rattle.sizes.proofs.engine.read.Tie as tie
 

@@ -9,7 +9,8 @@ use Rattle.card.specs.Stretches.{stretches}
 use Rattle.sizes.specs.Moves.{newOf}
 use Rattle.sizes.specs.Rows.{pairs, rowLength, Row}
 use Rattle.sizes.proofs.PairLists.{pairs-same, stretches-same}
-use Rattle.sizes.proofs.RowLaws.{base-le, size-low}
+use Rattle.sizes.proofs.Widths.{list-room}
+use Rattle.sizes.proofs.RowLaws.{base-le}
 use Rattle.sizes.proofs.RowCounts.{stretches-none}
 use Rattle.sizes.proofs.Exchanges.{sum-same, most-same, exchange}
 use Rattle.sizes.proofs.Clamps.{clamped}
@@ -30,7 +31,7 @@ renew-rows-requires c κs =
     let at = c .before .before .before .before .before .before .before .args in
     let pre = c .before .before .before .before .before .before .before .pre in
     let ew = c .before .before .before .before .row-length .ensures in
-    let low = size-low (at .n) (pre .1) in
+    let low = list-room (at .n) (pre .1) in
     (omega arith, omega arith, omega arith, ew, omega arith, rw ew (pre .5), omega arith, omega arith)
 
 returns : tie.Need-returns
@@ -68,9 +69,9 @@ renew-all-spec =
     tie.close
     (tie.spec
     (λ c κs. search needs)
-    (λ c. omega (arith, size-low (c .before .before .before .args .n) (c .before .before .before .pre .1)))
-    (λ c κs. omega (arith, size-low (c .before .before .before .args .n) (c .before .before .before .pre .1)))
-    (λ c. omega (arith, size-low (c .before .before .before .before .args .n) (c .before .before .before .before .pre .1)))
+    (λ c. omega (arith, list-room (c .before .before .before .args .n) (c .before .before .before .pre .1)))
+    (λ c κs. omega (arith, list-room (c .before .before .before .args .n) (c .before .before .before .pre .1)))
+    (λ c. omega (arith, list-room (c .before .before .before .before .args .n) (c .before .before .before .before .pre .1)))
     leaving-requires
     renew-rows-requires
     (λ c. search needs)

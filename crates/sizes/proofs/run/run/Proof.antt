@@ -9,7 +9,7 @@ use Rattle.terms.specs.Ranges.{size}
 use Rattle.trace.specs.Trace.{readsFrom}
 use Rattle.sizes.specs.Outcome.{stretchesLength, countsLength}
 use Rattle.sizes.specs.Answers.{areasOf}
-use Rattle.sizes.proofs.PassRoom.{size-small}
+use Rattle.sizes.proofs.Widths.{size-small}
 use Rattle.sizes.proofs.RanOutcomes.{fronts-out, header-in, out-refused, out-of-room, out-passed, room-in}
 use Rattle.sizes.proofs.run.run.Statement.{statement}
 use Rattle.sizes.proofs.run.run.Tie as tie

@@ -1,7 +1,8 @@
 -- `sizes::run::stretches_length` meets its contract: the product is small. Assumes nothing.
 use native.Mathlib.Omega.{arith}
 use borrow.Author.Needs.{needs}
-use Rattle.sizes.proofs.PassRoom.{size-small, stretches-small}
+use Rattle.sizes.proofs.Widths.{size-small}
+use Rattle.sizes.proofs.PassRoom.{stretches-small}
 use Rattle.sizes.proofs.run.stretches_length.Statement.{statement}
 use Rattle.sizes.proofs.run.stretches_length.Tie as tie
 

@@ -1,21 +1,19 @@
--- The room of a list that is kept beside the areas.
-use mathlib.Core.Path.{_≡_, refl}
-use Prim.Native.Nat.{ℕ, zero, suc, _+_, _*_, _≤_}
+-- What the largest size leaves room for: the one place where its value counts.
+use mathlib.Core.Path.{_≡_}
+use Prim.Native.Nat.{ℕ, _+_, _*_, _^_, _≤_, _<_}
 use native.Mathlib.Omega.{arith}
-use lib.ListN.{getD, replicate}
 use Rattle.terms.specs.Ranges.{size}
 use Rattle.sizes.specs.Rows.{rowLength}
 use Rattle.sizes.specs.Outcome.{stretchesLength}
 
-pub all-zero : (n x : ℕ) → _≡_ {A = ℕ} (getD (replicate n 0) x 0) 0
-all-zero zero x = refl
-all-zero (suc n) zero = refl
-all-zero (suc n) (suc x) = all-zero n x
-
--- the longest list and two zeros
+-- an array of a read holds the longest list and two zeros
 pub list-room : (n : ℕ) → n ≤ size .largest → rowLength n + 2 ≤ 130
 unfolding size
 list-room n h = omega arith
+
+-- a size fits 16 bits
+pub size-small : (n : ℕ) → n ≤ size .largest → n < 2 ^ 16
+size-small n h = omega (arith, list-room n h)
 
 -- the rows fill the stretch area
 pub rows-fill : (n : ℕ) → n * rowLength n ≡ stretchesLength n
