@@ -33,8 +33,8 @@ def answer(line, size):
     if not told.startswith('done '):
         raise RuntimeError('a program refused its trace: ' + told)
     counts = [int(count) for count in shown.split()[:6 * size]]
-    # the proved run's program leaves out the zeros at the end, since zeros fill the areas
-    return tuple(map(int, told.split()[1:4])), counts + [0] * (6 * size - len(counts))
+    # the proved run's program leaves out what is at the end and as before the run
+    return tuple(map(int, told.split()[1:4])), counts + [traces.FILL] * (6 * size - len(counts))
 
 
 def agree(answers, workload):

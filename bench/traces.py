@@ -8,6 +8,8 @@ import trace_format as form  # noqa: E402
 
 # The reads of a trace, by its size: enough for a card to fill where priorities let it, and to count in minutes.
 READS = {8: 1000, 32: 600, 127: 500}
+# What fills the areas before a run. Zeros would do, but the proved run's program leaves out what is as before.
+FILL = 255
 POOLS = {'N/2': lambda n: n // 2, '2N': lambda n: 2 * n, '8N': lambda n: 8 * n}
 PRIORITIES = {
     '1': lambda n: 1,
@@ -39,4 +41,4 @@ def trace(size, pool, priorities, reads):
 def case(size, data):
     """A trace with the head that the programs take: its length, the areas' lengths, and what fills the areas."""
     lengths = (len(data), size, 2 * size * ((size + 1) // 2), 6 * size)
-    return b''.join(n.to_bytes(2, 'little') for n in lengths) + bytes([0]) + data
+    return b''.join(n.to_bytes(2, 'little') for n in lengths) + bytes([FILL]) + data
