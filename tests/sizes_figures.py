@@ -12,7 +12,8 @@ import trace_format as form
 WORKED = bytes.fromhex('0103010a01010b02010c03010a03010b03010d02010c04010d01')
 SHEET = 'done 8 3 2 3 0 12 0 counts 0 0 0 1 2 5 1 0 0 2 3 2 0 1 2 1 4 0'
 PAPER = ((1, 2), (2, 2), (3, 5), (4, 1), (2, 6), (4, 6), (1, 4), (3, 1), (1, 4))
-REFUSED = ('', '0100', '018001', '0200', '0103808004', '0103010a', '0103010a00', '0103010aff7f', '0103010a808001', '0103010a8000', '018000')
+# traces at the borders of what is refused; the one with the largest priority is accepted
+BORDERS = ('', '0100', '018001', '0200', '0103808004', '0103010a', '0103010a00', '0103010aff7f', '0103010a808001', '0103010a8000', '018000')
 
 cases = []
 
@@ -37,7 +38,7 @@ def fill():
         case(trace(size, [(0, block, priority) for block, priority in PAPER]), rule.stated(size))
     case(trace(2, ((1, 7, 1), (2, 7, 1))), rule.stated(2))
     case(trace(3, ((0, 10, 3), (0, 11, 3))), rule.stated(3))
-    for text in REFUSED:
+    for text in BORDERS:
         case(bytes.fromhex(text), rule.stated(3))
     # a fault after reads leaves zeros, whatever the reads left
     case(WORKED + b'\x01', rule.stated(3))
