@@ -1,5 +1,6 @@
 // All sizes in one pass.
 mod engine;
+mod lists;
 mod numbers;
 mod rows;
 pub mod run;

@@ -1,4 +1,9 @@
 // The rows of the stretch area: a list of stretches for each place of the largest card.
+use crate::lists::copy_list;
+use crate::lists::count_entries;
+use crate::lists::fill;
+use crate::lists::merge;
+use crate::lists::write_pair;
 use crate::numbers::larger;
 ghost use mathlib.Core.Path.{_≡_};
 ghost use mathlib.Core.Bool.{true, cond};
@@ -20,203 +25,6 @@ pub struct Changes {
     pub gained: usize,
     pub lost: usize,
     pub longest: usize,
-}
-
-// A cursor into a list of stretches: the entries passed, and the place now in force.
-pub struct Cursor {
-    pub passed: usize,
-    pub place: u16,
-}
-
-// The place of another block once the block at place j has been taken out.
-fn taken_out(j: u16, l: u16) -> u16
-    ensures { λ r. ⌜ r ≡ takenOut j l ⌝ }
-{
-    if j == 0 {
-        return l;
-    }
-    if j < l {
-        return l - 1;
-    }
-    l
-}
-
-// The place of a block of a card of size m once a block has been put in at p.
-fn put_in(p: u16, m: u16, l: u16) -> u16
-    ensures { λ r. ⌜ r ≡ putIn p m l ⌝ }
-{
-    if m < p {
-        return l;
-    }
-    if l < p {
-        return l;
-    }
-    if l < m {
-        return l + 1;
-    }
-    0
-}
-
-// The new place of a block at place l of a card of size m.
-fn new_place(j: u16, p: u16, m: u16, l: u16) -> u16
-    ensures { λ r. ⌜ r ≡ putIn p m (takenOut j l) ⌝ }
-{
-    put_in(p, m, taken_out(j, l))
-}
-
-// The entry at i, 0 past the end.
-fn entry(list: &[u16], i: usize) -> u16
-    ensures { λ r. ⌜ r ≡ getD (now (list .entry)) i 0 ⌝ }
-{
-    if i < list.len() {
-        return list[i];
-    }
-    0
-}
-
-// The cursor at size s, from the cursor at the size before.
-fn advance(list: &[u16], cursor: Cursor, s: u16) -> Cursor
-    ensures { λ r. ⌜ ((J : ℕ → ℕ) (n t : ℕ) → Falling J → Begins (now (list .entry)) J n → s ≡ suc t → s ≤ n → At J t (cursor .passed) (cursor .place) → At J s (r .passed) (r .place)) ⌝ }
-{
-    let i = cursor.passed;
-    if i < list.len() {
-        if list[i] == s {
-            return Cursor {
-                passed: i + 2,
-                place: entry(list, i + 1),
-            };
-        }
-    }
-    cursor
-}
-
-// The last size before the next stretch: n where there is none.
-fn until(list: &[u16], i: usize, s: u16, n: u16) -> u16
-    requires { ⌜ s ≤ n ⌝ }
-    ensures range { λ r. ⌜ (s ≤ r) × (r ≤ n) ⌝ }
-    ensures level { λ r. ⌜ ((J : ℕ → ℕ) → Falling J → Begins (now (list .entry)) J n → i ≡ length (pairs J s) → Level J s r) ⌝ }
-{
-    let first = entry(list, i);
-    if s < first {
-        if first <= n {
-            return first - 1;
-        }
-    }
-    n
-}
-
-// The last size up to which both lists stand still.
-fn both_until(list: &[u16], other: &[u16], i: usize, k: usize, s: u16, n: u16) -> u16
-    requires { ⌜ s ≤ n ⌝ }
-    ensures range { λ r. ⌜ (s ≤ r) × (r ≤ n) ⌝ }
-    ensures first { λ r. ⌜ ((J : ℕ → ℕ) → Falling J → Begins (now (list .entry)) J n → i ≡ length (pairs J s) → Level J s r) ⌝ }
-    ensures second { λ r. ⌜ ((L : ℕ → ℕ) → Falling L → Begins (now (other .entry)) L n → k ≡ length (pairs L s) → Level L s r) ⌝ }
-{
-    let x = until(list, i, s, n);
-    let y = until(other, k, s, n);
-    if x < y {
-        return x;
-    }
-    y
-}
-
-// The last size up to which the new place stands still too: a block that is pushed out of size s may stay in the next.
-fn new_until(list: &[u16], other: &[u16], i: usize, k: usize, s: u16, n: u16, l: u16, r: u16) -> u16
-    requires { ⌜ s ≤ n ⌝ }
-    ensures range { λ e. ⌜ (s ≤ e) × (e ≤ n) ⌝ }
-    ensures level { λ e. ⌜ ((J L : ℕ → ℕ) (p : ℕ) → 0 < p → Falling J → Falling L → Begins (now (list .entry)) J n → Begins (now (other .entry)) L n → At J s i (J s) → At L s k l → r ≡ after J p L s → Level J s e × Level L s e × Level (after J p L) s e) ⌝ }
-{
-    if l == 0 {
-        return both_until(list, other, i, k, s, n);
-    }
-    if r == 0 {
-        return s;
-    }
-    both_until(list, other, i, k, s, n)
-}
-
-// Writes the stretch that begins at s, where one does.
-fn push(out: &mut [u16], q: usize, s: u16, r: u16, last: u16) -> usize
-    requires { ⌜ q ≤ length (now out) ⌝ }
-    ensures range { λ x. ⌜ (q ≤ x) × (x ≤ length (now (out .entry))) × ((y : ℕ) → x ≤ y → getD (now (out .exit)) y 0 ≡ getD (now (out .entry)) y 0) ⌝ }
-    ensures written { λ x. ⌜ ((R : ℕ → ℕ) (t : ℕ) → s ≡ suc t → r ≡ R s → last ≡ R t → length (pairs R s) ≤ length (now (out .entry)) → Written (now (out .entry)) q R t → Written (now (out .exit)) x R s) ⌝ }
-{
-    if r == 0 {
-        return q;
-    }
-    if r == last {
-        return q;
-    }
-    if out.len() - q < 2 {
-        return q;
-    }
-    out[q] = s;
-    out[q + 1] = r;
-    q + 2
-}
-
-// Zeros from q on. What follows the first zero is zero already.
-fn fill(out: &mut [u16], q: usize)
-    ensures { λ _. ⌜ ((x : ℕ) → x < q → getD (now (out .exit)) x 0 ≡ getD (now (out .entry)) x 0) × (Ends (now (out .entry)) q → (x : ℕ) → q ≤ x → getD (now (out .exit)) x 0 ≡ 0) ⌝ }
-{
-    let mut x = q;
-    while x < out.len() {
-        if out[x] == 0 {
-            return;
-        }
-        out[x] = 0;
-        x += 1;
-    }
-}
-
-// The stretches of another block after a read at p, from the list of the block read and its own; answers how many entries they are.
-fn merge(list: &[u16], other: &[u16], out: &mut [u16], p: u16, n: u16) -> usize
-    requires { ⌜ 0 < p ⌝ }
-    ensures range { λ x. ⌜ x ≤ length (now (out .entry)) ⌝ }
-    ensures merged { λ x. ⌜ ((J L : ℕ → ℕ) → Falling J → Falling L → Begins (now (list .entry)) J n → Begins (now (other .entry)) L n → Ends (now (out .entry)) 0 → length (pairs (after J p L) n) ≤ length (now (out .entry)) → (x ≡ length (pairs (after J p L) n)) × Holds (now (out .exit)) (after J p L) n) ⌝ }
-{
-    let mut t: u16 = 0;
-    let mut q: usize = 0;
-    let mut last: u16 = 0;
-    let mut x = Cursor {
-        passed: 0,
-        place: 0,
-    };
-    let mut y = Cursor {
-        passed: 0,
-        place: 0,
-    };
-    while t < n {
-        let s = t + 1;
-        x = advance(list, x, s);
-        y = advance(other, y, s);
-        let r = new_place(x.place, p, s, y.place);
-        q = push(out, q, s, r, last);
-        last = r;
-        t = new_until(list, other, x.passed, y.passed, s, n, y.place, r);
-    }
-    fill(out, q);
-    q
-}
-
-// Copies a list, and a zero after it; answers how many entries it has.
-fn copy_list(row: &[u16], out: &mut [u16]) -> usize
-    requires { ⌜ length (now row) < length (now out) ⌝ }
-    ensures range { λ x. ⌜ x ≤ length (now (row .entry)) ⌝ }
-    ensures begins { λ x. ⌜ ((R : ℕ → ℕ) (n : ℕ) → Holds (now (row .entry)) R n → (x ≡ length (pairs R n)) × Begins (now (out .exit)) R n) ⌝ }
-    ensures beyond { λ x. ⌜ ((y : ℕ) → x < y → getD (now (out .exit)) y 0 ≡ getD (now (out .entry)) y 0) ⌝ }
-{
-    let mut x = 0;
-    while x < row.len() {
-        let v = row[x];
-        out[x] = v;
-        if v == 0 {
-            return x;
-        }
-        x += 1;
-    }
-    out[x] = 0;
-    x
 }
 
 // The same of the row from an index of the area on.
@@ -265,16 +73,6 @@ fn renew(
 {
     let end = at + width;
     merge(list, other, &mut area[at..end], p, n)
-}
-
-// A list of one stretch.
-fn write_pair(out: &mut [u16], first: u16, place: u16)
-    requires { ⌜ 2 ≤ length (now out) ⌝ }
-    ensures { λ _. ⌜ ((R : ℕ → ℕ) (n : ℕ) → pairs R n ≡ first ∷ place ∷ [] → Ends (now (out .entry)) 0 → Holds (now (out .exit)) R n) ⌝ }
-{
-    out[0] = first;
-    out[1] = place;
-    fill(out, 2);
 }
 
 // The row from an index on gets one stretch.
@@ -600,22 +398,6 @@ fn renew_rows(
         t = t + 1;
     }
     changes
-}
-
-// How many entries a list has.
-fn count_entries(list: &[u16], width: usize) -> usize
-    requires { ⌜ width ≤ length (now list) ⌝ }
-    ensures range { λ x. ⌜ x ≤ width ⌝ }
-    ensures counted { λ x. ⌜ ((R : ℕ → ℕ) (n : ℕ) → width ≡ rowLength n → Falling R → Begins (now (list .entry)) R n → x ≡ length (pairs R n)) ⌝ }
-{
-    let mut x = 0;
-    while x < width {
-        if list[x] == 0 {
-            return x;
-        }
-        x += 1;
-    }
-    x
 }
 
 // The stretches that leave beside what moves: those of the block read, or of a block that is pushed out of the largest card, which has one at most.

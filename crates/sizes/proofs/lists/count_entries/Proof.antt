@@ -8,8 +8,8 @@ use lib.ListN.{getD}
 use Rattle.card.proofs.Tests.{by-eq}
 use Rattle.sizes.proofs.PairFacts.{pairs-fit}
 use Rattle.sizes.proofs.Copies.{counted}
-use Rattle.sizes.proofs.rows.count_entries.Statement.{statement}
-use Rattle.sizes.proofs.rows.count_entries.Tie as tie
+use Rattle.sizes.proofs.lists.count_entries.Statement.{statement}
+use Rattle.sizes.proofs.lists.count_entries.Tie as tie
 
 abbrev Inv-loop : tie.InvT-loop
 Inv-loop list width x₀ x = (x ≤ width) × ((k : ℕ) → k < x → 0 < getD list k 0)

@@ -9,8 +9,8 @@ use Rattle.sizes.proofs.PairLaws.{lt-cases}
 use Rattle.sizes.specs.Lists.{Ends}
 use Prim.Native.Nat.{ℕ, zero, suc, _≤_, _<_}
 use lib.ListN.{length, getD, set, length-set, List·getD-eq-default}
-use Rattle.sizes.proofs.rows.write_pair.Statement.{statement}
-use Rattle.sizes.proofs.rows.write_pair.Tie as tie
+use Rattle.sizes.proofs.lists.write_pair.Statement.{statement}
+use Rattle.sizes.proofs.lists.write_pair.Tie as tie
 
 -- the two entries
 two-at : (o : List ℕ) (p l q : ℕ) → 2 ≤ length o → q < 2 → getD (set (set o 0 p) 1 l) q 0 ≡ getD (p ∷ l ∷ []) q 0

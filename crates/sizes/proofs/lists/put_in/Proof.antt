@@ -1,8 +1,8 @@
 -- Putting a block in, by cases.
 use borrow.Author.Needs.{needs}
 use borrow.Author.Tests.{lt-ltb, le-ltb}
-use Rattle.sizes.proofs.rows.put_in.Statement.{statement}
-use Rattle.sizes.proofs.rows.put_in.Tie as tie
+use Rattle.sizes.proofs.lists.put_in.Statement.{statement}
+use Rattle.sizes.proofs.lists.put_in.Tie as tie
 
 returns-2 : tie.Need-returns-2
 returns-2 c = simp (le-ltb _ _ (c .before .if1 .left), lt-ltb _ _ (c .if2 .taken))

@@ -9,8 +9,8 @@ use lib.Seq.{getD-set-other}
 use lib.ListN.{length, set, length-set, length-append}
 use Rattle.sizes.specs.Rows.{pairs}
 use Rattle.sizes.proofs.PairLaws.{flat-s, start-s, written-eq, written-more}
-use Rattle.sizes.proofs.rows.push.Statement.{statement}
-use Rattle.sizes.proofs.rows.push.Tie as tie
+use Rattle.sizes.proofs.lists.push.Statement.{statement}
+use Rattle.sizes.proofs.lists.push.Tie as tie
 
 returns : tie.Need-returns
 returns c =

@@ -1,8 +1,8 @@
 -- Taking a block out, by cases.
 use borrow.Author.Needs.{needs}
 use borrow.Author.Tests.{lt-ltb, le-ltb, eq-eqb, ne-eqb}
-use Rattle.sizes.proofs.rows.taken_out.Statement.{statement}
-use Rattle.sizes.proofs.rows.taken_out.Tie as tie
+use Rattle.sizes.proofs.lists.taken_out.Statement.{statement}
+use Rattle.sizes.proofs.lists.taken_out.Tie as tie
 
 returns-2 : tie.Need-returns-2
 returns-2 c = simp (ne-eqb _ _ (c .before .if1 .left), lt-ltb _ _ (c .if2 .taken))

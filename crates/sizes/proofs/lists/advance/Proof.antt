@@ -6,8 +6,8 @@ use mathlib.Core.Path.{_∙_}
 use Prim.Native.Nat.{_+_}
 use Rattle.sizes.proofs.PairLaws.{moved, stood, len-le}
 use Rattle.sizes.proofs.PairFacts.{in-list}
-use Rattle.sizes.proofs.rows.advance.Statement.{statement}
-use Rattle.sizes.proofs.rows.advance.Tie as tie
+use Rattle.sizes.proofs.lists.advance.Statement.{statement}
+use Rattle.sizes.proofs.lists.advance.Tie as tie
 
 returns : tie.Need-returns
 returns c J n t good holds es hs a =

@@ -5,8 +5,8 @@ use mathlib.Core.Path.{_≡_, refl, _∙_}
 use Prim.Native.Nat.{ℕ, _-_, _≤_, _<_}
 use lib.ListN.{length, getD, length-set, List·getD-eq-default}
 use Rattle.sizes.proofs.Copies.{copied, copied-some, copied-old, still-some}
-use Rattle.sizes.proofs.rows.copy_list.Statement.{statement}
-use Rattle.sizes.proofs.rows.copy_list.Tie as tie
+use Rattle.sizes.proofs.lists.copy_list.Statement.{statement}
+use Rattle.sizes.proofs.lists.copy_list.Tie as tie
 
 abbrev Inv-loop : tie.InvT-loop
 Inv-loop row out₀ x₀ out x =

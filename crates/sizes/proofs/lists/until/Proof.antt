@@ -4,8 +4,8 @@ use mathlib.Core.Path.{_∙_}
 use native.Mathlib.Omega.{arith}
 use mathlib.Core.Logic.{inl, inr}
 use Rattle.sizes.proofs.PairLaws.{until-law, len-le}
-use Rattle.sizes.proofs.rows.until.Statement.{statement}
-use Rattle.sizes.proofs.rows.until.Tie as tie
+use Rattle.sizes.proofs.lists.until.Statement.{statement}
+use Rattle.sizes.proofs.lists.until.Tie as tie
 
 returns : tie.Need-returns
 returns c =

@@ -3,8 +3,8 @@ use borrow.Author.Needs.{needs}
 use mathlib.Core.Path.{sym}
 use native.Mathlib.Omega.{arith}
 use lib.ListN.{List·getD-eq-default}
-use Rattle.sizes.proofs.rows.entry.Statement.{statement}
-use Rattle.sizes.proofs.rows.entry.Tie as tie
+use Rattle.sizes.proofs.lists.entry.Statement.{statement}
+use Rattle.sizes.proofs.lists.entry.Tie as tie
 
 returns-2 : tie.Need-returns-2
 returns-2 c = sym (List·getD-eq-default (c .before .args .list .now) 0 (omega arith))

@@ -5,8 +5,8 @@ use mathlib.Core.Path.{ap}
 use mathlib.Core.Logic.{inl, inr}
 use Rattle.sizes.specs.Moves.{after}
 use Rattle.sizes.proofs.PairLaws.{after-level}
-use Rattle.sizes.proofs.rows.new_until.Statement.{statement}
-use Rattle.sizes.proofs.rows.new_until.Tie as tie
+use Rattle.sizes.proofs.lists.new_until.Statement.{statement}
+use Rattle.sizes.proofs.lists.new_until.Tie as tie
 
 returns : tie.Need-returns
 returns c =

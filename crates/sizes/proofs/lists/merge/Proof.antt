@@ -9,8 +9,8 @@ use Rattle.sizes.specs.Moves.{after, Falling}
 use Rattle.sizes.specs.Rows.{pairs}
 use Rattle.sizes.specs.Lists.{Begins, Written}
 use Rattle.sizes.proofs.PairLaws.{State, state-none, state-next, rule-after, here, holds-all, len-le}
-use Rattle.sizes.proofs.rows.merge.Statement.{statement}
-use Rattle.sizes.proofs.rows.merge.Tie as tie
+use Rattle.sizes.proofs.lists.merge.Statement.{statement}
+use Rattle.sizes.proofs.lists.merge.Tie as tie
 
 abbrev Inv-loop : tie.InvT-loop
 Inv-loop list other out₀ p n t₀ q₀ last₀ x₀ y₀ out t q last x y =

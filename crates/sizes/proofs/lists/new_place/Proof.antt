@@ -2,8 +2,8 @@
 use borrow.Author.Needs.{needs}
 use mathlib.Core.Path.{ap, _∙_}
 use Rattle.sizes.specs.Moves.{putIn}
-use Rattle.sizes.proofs.rows.new_place.Statement.{statement}
-use Rattle.sizes.proofs.rows.new_place.Tie as tie
+use Rattle.sizes.proofs.lists.new_place.Statement.{statement}
+use Rattle.sizes.proofs.lists.new_place.Tie as tie
 
 returns : tie.Need-returns
 returns c = c .put-in .ensures ∙ ap (putIn (c .before .before .args .p) (c .before .before .args .m)) (c .before .taken-out .ensures)

@@ -7,8 +7,8 @@ use Prim.Native.Nat.{ℕ, _-_, _≤_, _<_}
 use lib.ListN.{length, getD, set, length-set, List·getD-eq-default}
 use lib.Seq.{getD-set-same, getD-set-other}
 use Rattle.sizes.proofs.PairLaws.{lt-cases, eq-cases}
-use Rattle.sizes.proofs.rows.fill.Statement.{statement}
-use Rattle.sizes.proofs.rows.fill.Tie as tie
+use Rattle.sizes.proofs.lists.fill.Statement.{statement}
+use Rattle.sizes.proofs.lists.fill.Tie as tie
 
 abbrev Inv-loop : tie.InvT-loop
 Inv-loop out₀ q x₀ out x = (length out ≡ length out₀) × (q ≤ x) × ((k : ℕ) → k < q → getD out k 0 ≡ getD out₀ k 0) × ((k : ℕ) → q ≤ k → k < x → getD out k 0 ≡ 0) × ((k : ℕ) → x ≤ k → getD out k 0 ≡ getD out₀ k 0)

@@ -1,8 +1,8 @@
 -- The nearer of the two.
 use borrow.Author.Needs.{needs}
 use native.Mathlib.Omega.{arith}
-use Rattle.sizes.proofs.rows.both_until.Statement.{statement}
-use Rattle.sizes.proofs.rows.both_until.Tie as tie
+use Rattle.sizes.proofs.lists.both_until.Statement.{statement}
+use Rattle.sizes.proofs.lists.both_until.Tie as tie
 
 returns : tie.Need-returns
 returns c =
