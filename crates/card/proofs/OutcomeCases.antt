@@ -92,10 +92,11 @@ place-in (y ∷ ys) x = by-eq y x (λ e. simp tests (omega arith)) (λ e. simp t
 
 -- a read is its place, its outcome and its shift
 pub read-is : (c last : List ℕ) (x p q j n : ℕ) → q ≡ p → j ≡ place c x → n ≡ outcome (length c) j q → last ≡ getD (effects c x j q) n c
-    → (n ≡ outcomeOn c x p) × (last ≡ afterRead c x p)
+    → (j ≡ place c x) × (n ≡ outcomeOn c x p) × (last ≡ afterRead c x p)
 unfolding afterRead
 read-is c last x p q j n f e g h =
     let o : n ≡ outcomeOn c x p = g ∙ ap₂ (outcome (length c)) e f in (
+      e,
       o,
       h
           ∙ ap (λ (k : ℕ). getD (effects c x k q) n c) e

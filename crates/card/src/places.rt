@@ -1,7 +1,7 @@
 // A card as a slice of its places: where a block stands, and one read.
 ghost use mathlib.Core.Path.{_≡_};
 ghost use Prim.Native.Nat.{suc, _%_, _≤_, max};
-ghost use lib.ListN.{length, getD};
+ghost use lib.ListN.{length, getD, take};
 ghost use Rattle.terms.specs.Ranges.{volume, block};
 ghost use Rattle.card.specs.Rule.{keyOf, place, lowered, raised, outcome, effects, outcomeOn, afterRead};
 
@@ -17,11 +17,12 @@ pub fn key_of(v: u64, b: u64) -> u64
     v % VOLUMES * BLOCKS + b % BLOCKS + 1
 }
 
-// The place of a block, 0 where it is not there.
-pub fn place_of(card: &[u64], key: u64) -> usize
+// The place of a block that is at none of the first places, 0 where it is not there.
+fn place_from(card: &[u64], key: u64, from: usize) -> usize
+    requires { ⌜ (from ≤ length (now card)) × (place (take from (now card)) key ≡ 0) ⌝ }
     ensures { λ r. ⌜ r ≡ place (now (card .entry)) key ⌝ }
 {
-    let mut i = 0;
+    let mut i = from;
     while i < card.len() {
         if card[i] == key {
             return i + 1;
@@ -29,6 +30,29 @@ pub fn place_of(card: &[u64], key: u64) -> usize
         i += 1;
     }
     0
+}
+
+// The place of a block, 0 where it is not there; by fours, because the search is a large part of a read that changes little.
+pub fn place_of(card: &[u64], key: u64) -> usize
+    ensures { λ r. ⌜ r ≡ place (now (card .entry)) key ⌝ }
+{
+    let mut i = 0;
+    while 4 <= card.len() - i {
+        if card[i] == key {
+            return i + 1;
+        }
+        if card[i + 1] == key {
+            return i + 2;
+        }
+        if card[i + 2] == key {
+            return i + 3;
+        }
+        if card[i + 3] == key {
+            return i + 4;
+        }
+        i += 4;
+    }
+    place_from(card, key, i)
 }
 
 // The number of the outcome of a read on a card of some size, for a block at place j and a priority p.
@@ -107,14 +131,23 @@ pub fn at_least_one(priority: usize) -> usize
     priority
 }
 
-// One read on a card of any size: answers the outcome's number.
-pub fn read(card: &mut [u64], key: u64, priority: usize) -> u32
-    ensures { λ r. ⌜ (r ≡ outcomeOn (now (card .entry)) key (max 1 priority))
+// What a read found and did: the place of the block before it, 0 where it was not there, and the outcome's number.
+pub struct Found {
+    pub place: usize,
+    pub outcome: u32,
+}
+
+// One read on a card of any size.
+pub fn read(card: &mut [u64], key: u64, priority: usize) -> Found
+    ensures { λ r. ⌜ (r .place ≡ place (now (card .entry)) key) × (r .outcome ≡ outcomeOn (now (card .entry)) key (max 1 priority))
         × (now (card .exit) ≡ afterRead (now (card .entry)) key (max 1 priority)) ⌝ }
 {
     let p = at_least_one(priority);
     let j = place_of(card, key);
     let number = outcome_of(card.len(), j, p);
     shift(card, number, j, p, key);
-    number
+    Found {
+        place: j,
+        outcome: number,
+    }
 }

@@ -1,9 +1,10 @@
--- A priority past the last place n does at every place and size up to n what n + 1 does.
+-- Priorities past the last place n, at every place and size up to n: each does what n + 1 does, and nothing to a block that is not there.
 use mathlib.Core.Path.{_≡_, sym, ap, _∙_}
 use Prim.Native.Nat.{ℕ, _+_, _≤_, _<_, min}
 use native.Mathlib.Omega.{arith}
 use Rattle.card.proofs.Tests.{by-lt, tests}
-use Rattle.sizes.specs.Moves.{after, sourceOf, newOf}
+use Rattle.sizes.specs.Moves.{after, Falling, sourceOf, newOf}
+use Rattle.sizes.proofs.PairFacts.{falls}
 
 module _ (J : ℕ → ℕ) (j : ℕ) (L : ℕ → ℕ → ℕ) (n k m : ℕ) (kn : k ≤ n) (mn : m ≤ n) where
   -- nothing is put in
@@ -22,3 +23,13 @@ module _ (J : ℕ → ℕ) (j : ℕ) (L : ℕ → ℕ → ℕ) (n k m : ℕ) (kn
   clamped p c e = by-lt n p
       (λ h. let f : c ≡ n + 1 = omega arith in ap (λ (z : ℕ). newOf J z j L k m) f ∙ sym (past-new p h))
       (λ h. let f : c ≡ p = omega arith in ap (λ (z : ℕ). newOf J z j L k m) f)
+
+  -- a block that is in no card and is put in none
+  pub bypassed : (p : ℕ) → n < p → j ≡ 0 → j ≡ J n → Falling J → newOf J p j L k m ≡ L k m
+  unfolding newOf after sourceOf
+  bypassed p h none there fall =
+      let absent : J m ≡ 0 = by-lt 0 (J m) (λ some. absurd (omega (arith, falls J fall m n mn some .0))) (λ le. omega arith) in
+      let a : k ≡ p → ⊥ = λ e. omega arith in
+      let d : k ≤ p = omega arith in
+      let f : m < p = omega arith in
+      simp tests

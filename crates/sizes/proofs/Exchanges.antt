@@ -1,4 +1,4 @@
--- Sums over the places: in any order, and over where blocks come from.
+-- Sums over the places, and over where their blocks come from.
 use mathlib.Core.Path.{_≡_, refl, sym, ap, ap₂, _∙_}
 use mathlib.Core.Logic.{_⊎_, _≢_, inl, inr, ⊎-elim}
 use mathlib.Core.Bool.{cond}
@@ -9,8 +9,8 @@ use lib.Dec.{eqb}
 use Rattle.card.proofs.Tests.{by-lt, by-eq, tests}
 use Rattle.sizes.specs.Moves.{sourceOf}
 use Rattle.sizes.specs.Totals.{sumTo, mostTo}
-use Rattle.sizes.specs.Lists.{turned, movedOf, leftOf, Counted}
-use Rattle.sizes.proofs.RowLaws.{backOf, bumpOf, way}
+use Rattle.sizes.specs.Sweeps.{movedOf, leftOf}
+use Rattle.sizes.proofs.RowLaws.{backOf, bumpOf}
 
 module _ (f g : ℕ → ℕ) where
   pub sum-same : (n : ℕ) → ((k : ℕ) → 1 ≤ k → k ≤ n → f k ≡ g k) → sumTo n f ≡ sumTo n g
@@ -21,99 +21,23 @@ module _ (f g : ℕ → ℕ) where
   most-same zero h = refl
   most-same (suc n) h = omega (arith, most-same n (λ k a b. h k a (omega arith)), h (suc n) (omega arith) (omega arith))
 
--- ---- the other way round
+-- one place less
+pub sum-last : (f : ℕ → ℕ) (m : ℕ) → 0 < m → sumTo m f ≡ sumTo (m - 1) f + f m
+sum-last f zero h = absurd (omega arith)
+sum-last f (suc m) h = let e : suc m - 1 ≡ m = omega arith in rw e
 
-sum-first : (f : ℕ → ℕ) (n : ℕ) → sumTo (suc n) f ≡ f 1 + sumTo n (λ k. f (suc k))
-sum-first f zero = omega arith
-sum-first f (suc n) = omega (arith, sum-first f n)
+-- the largest is none of less, and no bound
+pub most-over : (f : ℕ → ℕ) (n k : ℕ) → 1 ≤ k → k ≤ n → f k ≤ mostTo n f
+most-over f zero k a b = absurd (omega arith)
+most-over f (suc n) k a b = by-eq k (suc n) (λ e. omega (arith, ap f e)) (λ ne. omega (arith, most-over f n k a (omega (arith, ne))))
 
-most-first : (f : ℕ → ℕ) (n : ℕ) → mostTo (suc n) f ≡ max (f 1) (mostTo n (λ k. f (suc k)))
-most-first f zero = omega arith
-most-first f (suc n) = omega (arith, most-first f n)
-
-first : (f : ℕ → ℕ) (n : ℕ) → f (suc n + 1 - 1) ≡ f (suc n)
-first f n = ap f (omega arith)
-
-sum-back : (f : ℕ → ℕ) (n : ℕ) → sumTo n (λ k. f (n + 1 - k)) ≡ sumTo n f
-sum-back f zero = refl
-sum-back f (suc n) =
-    omega (
-      arith,
-      sum-first (λ k. f (suc n + 1 - k)) n,
-      sum-same (λ k. f (suc n + 1 - suc k)) (λ k. f (n + 1 - k)) n (λ k a b. ap f (omega arith)),
-      sum-back f n,
-      first f n,
-    )
-
-most-back : (f : ℕ → ℕ) (n : ℕ) → mostTo n (λ k. f (n + 1 - k)) ≡ mostTo n f
-most-back f zero = refl
-most-back f (suc n) =
-    omega (
-      arith,
-      most-first (λ k. f (suc n + 1 - k)) n,
-      most-same (λ k. f (suc n + 1 - suc k)) (λ k. f (n + 1 - k)) n (λ k a b. ap f (omega arith)),
-      most-back f n,
-      first f n,
-    )
-
--- ---- turn by turn
-
-module _ (n p j : ℕ) where
-  pub turned-up : 0 < j → j < p → (i : ℕ) → turned n p j i ≡ i
-  unfolding turned
-  turned-up a b i = let e : j ≢ 0 = omega arith in simp tests
-
-  pub turned-down : (j ≡ 0) ⊎ (p ≤ j) → (i : ℕ) → turned n p j i ≡ n + 1 - i
-  unfolding turned
-  turned-down h i = by-eq j 0 (λ e. simp tests) (λ ne. ⊎-elim (λ e. absurd (ne e)) (λ (ge : p ≤ j). simp tests) h)
-
-  sum-turned : (f : ℕ → ℕ) → sumTo n (λ i. f (turned n p j i)) ≡ sumTo n f
-  sum-turned f = ⊎-elim
-      (λ u. sum-same (λ i. f (turned n p j i)) f n (λ i a b. ap f (turned-up (u .0) (u .1) i)))
-      (λ d. sum-same (λ i. f (turned n p j i)) (λ i. f (n + 1 - i)) n (λ i a b. ap f (turned-down d i)) ∙ sum-back f n)
-      (way p j)
-
-  most-turned : (f : ℕ → ℕ) → mostTo n (λ i. f (turned n p j i)) ≡ mostTo n f
-  most-turned f = ⊎-elim
-      (λ u. most-same (λ i. f (turned n p j i)) f n (λ i a b. ap f (turned-up (u .0) (u .1) i)))
-      (λ d. most-same (λ i. f (turned n p j i)) (λ i. f (n + 1 - i)) n (λ i a b. ap f (turned-down d i)) ∙ most-back f n)
-      (way p j)
-
-max-both : (b x y : ℕ) → max b (max x y) ≡ max (max b x) (max b y)
-max-both b x y = omega arith
-
-module _ (n p j : ℕ) (moved new before : ℕ → ℕ) (left : ℕ) where
-  -- what the turns up to t make
-  pub record Sofar (t gained lost longest : ℕ) : Type 0 where
-    pub sums : gained + left + sumTo t (λ i. moved (turned n p j i)) ≡ lost + sumTo t (λ i. new (turned n p j i))
-    pub most : (B : ℕ) → ((k : ℕ) → 1 ≤ k → k ≤ n → before k ≤ B) → max B longest ≡ max B (mostTo t (λ i. new (turned n p j i)))
-
-  pub sofar-none : Sofar 0 0 left 0
-  sofar-none = record { sums = omega arith; most = λ B h. refl }
-
-  pub sofar-more : (t k g l m g₁ l₁ m₁ g₂ l₂ m₂ : ℕ) → 0 < k → k ≤ n → k ≡ turned n p j (t + 1) → Sofar t g l m → Counted g₁ l₁ m₁ (moved k) (new k) (before k)
-      → g₂ ≡ g + g₁ → l₂ ≡ l + l₁ → m₂ ≡ max m m₁ → Sofar (t + 1) g₂ l₂ m₂
-  sofar-more t k g l m g₁ l₁ m₁ g₂ l₂ m₂ a b e so co eg el em₂ =
-      let ek : k ≡ turned n p j (suc t) = e ∙ ap (turned n p j) (add-one t) in
-      let em : moved (turned n p j (suc t)) ≡ moved k = ap moved (sym ek) in
-      let en : new (turned n p j (suc t)) ≡ new k = ap new (sym ek) in
-      rw (add-one t) (record {
-        sums = omega (arith, so .sums, co .balance);
-        most = λ B h. ap (max B) em₂ ∙ max-both B m m₁ ∙ ap₂ max (so .most B h) (co .most B (h k a b) ∙ ap (max B) (sym en)) ∙ sym (max-both B _ _);
-      })
-
-  pub sofar-all : (g l m : ℕ) → Sofar n g l m
-      → (g + left + sumTo n moved ≡ l + sumTo n new) × ((B : ℕ) → ((k : ℕ) → 1 ≤ k → k ≤ n → before k ≤ B) → max B m ≡ max B (mostTo n new))
-  sofar-all g l m so =
-      (omega (arith, so .sums, sum-turned n p j moved, sum-turned n p j new), λ B h. so .most B h ∙ ap (max B) (most-turned n p j new))
+pub most-under : (f : ℕ → ℕ) (n B : ℕ) → ((k : ℕ) → 1 ≤ k → k ≤ n → f k ≤ B) → mostTo n f ≤ B
+most-under f zero B h = omega arith
+most-under f (suc n) B h = omega (arith, most-under f n B (λ k a b. h k a (omega arith)), h (suc n) (omega arith) (omega arith))
 
 -- ---- where blocks come from
 
 module _ (g : ℕ → ℕ) where
-  sum-last : (m : ℕ) → 0 < m → sumTo m g ≡ sumTo (m - 1) g + g m
-  sum-last zero h = absurd (omega arith)
-  sum-last (suc m) h = let e : suc m - 1 ≡ m = omega arith in rw e
-
   -- the place of the block read is passed over
   passed : (j y : ℕ) → ((j ≡ 0) ⊎ (y < j) → sumTo y (λ x. g (bumpOf j x)) ≡ sumTo y g) × (0 < j → j ≤ y → sumTo y (λ x. g (bumpOf j x)) + g j ≡ sumTo (suc y) g)
   passed j zero = ((λ h. refl), λ a b. absurd (omega arith))
@@ -144,7 +68,7 @@ module _ (g : ℕ → ℕ) where
         omega (arith, skipped p m pos .0 (omega arith), e, ap (λ (z : ℕ). sumTo z g) s))
         (λ ne. let lt : p < suc m = omega (arith, ne) in
         let e : cond (eqb (suc m) p) 0 (g (backOf p (suc m))) ≡ g (suc m - 1) = simp tests in
-        omega (arith, skipped p m pos .1 (omega arith), e, ap g s, sum-last m (omega arith), ap (λ (z : ℕ). sumTo z g) s)),
+        omega (arith, skipped p m pos .1 (omega arith), e, ap g s, sum-last g m (omega arith), ap (λ (z : ℕ). sumTo z g) s)),
   )
 
 -- what is at the places is what leaves and what moves

@@ -9,6 +9,10 @@ pub mod RowSkips
 pub mod Clamps
 pub mod Exchanges
 pub mod RowCounts
+pub mod Halfways
+pub mod RowSteps
+pub mod Stills
+pub mod Turns
 pub mod Singles
 pub mod Families
 pub mod NewPlaces

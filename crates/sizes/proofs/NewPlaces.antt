@@ -14,6 +14,7 @@ use Rattle.card.proofs.Inclusion.{key-some, wanted-some}
 use Rattle.card.proofs.NextPlaces.{places-read, places-other}
 use Rattle.sizes.specs.Moves.{takenOut, putIn, after, own, sourceOf, newOf}
 use Rattle.sizes.specs.Rows.{placesAt}
+use Rattle.sizes.proofs.PairLaws.{after-absent}
 use Rattle.sizes.proofs.Families.{keyAt, family, falling, placed, unplaced, key-place}
 
 -- ---- where a block comes from
@@ -104,11 +105,6 @@ key-here rs n x i e =
     let d : depth (cardAfter n rs) x ≡ i = omega arith in
     ap (λ (q : ℕ). keyAt rs n q) (sym d) ∙ getD-depth (cardAfter n rs) x a
 
--- where a family is none, nothing comes
-after-none : (J : ℕ → ℕ) (p : ℕ) (L : ℕ → ℕ) (m : ℕ) → 1 ≤ p → L m ≡ 0 → after J p L m ≡ 0
-unfolding after
-after-none J p L m one e = rw e (none-stays (J m) p m one)
-
 -- the family at the place of a block
 pub family-at : (rs : List Read) (n y : ℕ) → y ≢ 0 → 1 ≤ placesOf rs y n → (m : ℕ) → family rs n (placesOf rs y n) m ≡ placesOf rs y m
 family-at rs n y z present m = go (placesOf rs y n) refl
@@ -160,7 +156,7 @@ module _ (rs : List Read) (r : Read) (n : ℕ) where
     -- none does
     empties : keyAt more n i ≡ 0 → (m : ℕ) → after readPlaces (wanted r) (family rs n (sourceOf (wanted r) (readPlaces n) (suc i))) m ≡ 0
     empties e m =
-        after-none readPlaces (wanted r) (family rs n (sourceOf (wanted r) (readPlaces n) (suc i))) m (wanted-some r)
+        after-absent readPlaces (wanted r) (family rs n (sourceOf (wanted r) (readPlaces n) (suc i))) m (wanted-some r)
         (nothing (sourceOf (wanted r) (readPlaces n) (suc i)) refl)
       where
         nothing : (s : ℕ) → s ≡ sourceOf (wanted r) (readPlaces n) (suc i) → family rs n s m ≡ 0

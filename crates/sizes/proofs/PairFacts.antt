@@ -1,5 +1,5 @@
 -- What a list of stretches holds.
-use mathlib.Core.Path.{_≡_, refl, sym, ap, _∙_}
+use mathlib.Core.Path.{_≡_, sym, ap, _∙_}
 use mathlib.Core.Logic.{⊎-elim}
 use mathlib.Core.List.{List, [], _∷_, _++_}
 use Prim.Native.Nat.{ℕ, zero, suc, _+_, _-_, _≤_, _<_}
@@ -28,48 +28,6 @@ two R (suc n) =
 -- a row has room
 pub pairs-fit : (R : ℕ → ℕ) (n : ℕ) → Falling R → length (pairs R n) ≤ rowLength n
 pairs-fit R n good = omega (arith, two R n, room-le R good n)
-
--- Stretch i: the size c at which it begins, and the place there, which is another than at the size before.
-pub record Pair (R : ℕ → ℕ) (n i c l : ℕ) : Type 0 where
-  pub first : 0 < c
-  pub size : c ≤ n
-  pub place : l ≡ R c
-  pub present : 0 < l
-  pub change : R (c - 1) ≡ R c → ⊥
-  pub index : length (pairs R c) ≡ i + i + 2
-
-wider : (R : ℕ → ℕ) (n n2 i c c2 l l2 : ℕ) → n ≤ n2 → c2 ≡ c → l2 ≡ l → Pair R n i c l → Pair R n2 i c2 l2
-wider R n n2 i c c2 l l2 h ec el p = record {
-  first = omega (arith, p .first);
-  size = omega (arith, p .size);
-  place = el ∙ p .place ∙ ap R (sym ec);
-  present = omega (arith, p .present);
-  change = λ z. p .change (ap (λ k. R (k - 1)) (sym ec) ∙ z ∙ ap R ec);
-  index = ap (λ k. length (pairs R k)) ec ∙ p .index;
-}
-
-pub pair : (R : ℕ → ℕ) (n i : ℕ) → i + i < length (pairs R n) → Pair R n i (getD (pairs R n) (i + i) 0) (getD (pairs R n) (i + i + 1) 0)
-pair R zero i h = absurd (omega (arith, ap length (pairs-zero R)))
-pair R (suc n) i h =
-    ⊎-elim
-    (λ lt. wider R n (suc n) i _ _ _ _ (omega arith) (prefix R n (suc n) (i + i) (omega arith) lt) (prefix R n (suc n) (i + i + 1) (omega arith) (omega (arith, two R n))) (pair R n i lt))
-    (λ ge. ⊎-elim
-    (λ w. absurd (omega (arith, ap length (w .1))))
-    (λ w.
-    let el : length (pairs R (suc n)) ≡ length (pairs R n) + 2 = ap length (w .2) ∙ length-append (pairs R n) (suc n ∷ R (suc n) ∷ []) in
-    let ei : i + i ≡ length (pairs R n) = omega (arith, two R n) in
-    let a : getD (pairs R (suc n)) (i + i) 0 ≡ suc n = ap (λ k. getD (pairs R (suc n)) k 0) ei ∙ start-at R n (suc n) (omega arith) (w .0) (w .1) .0 in
-    let b : getD (pairs R (suc n)) (i + i + 1) 0 ≡ R (suc n) = ap (λ k. getD (pairs R (suc n)) (k + 1) 0) ei ∙ start-at R n (suc n) (omega arith) (w .0) (w .1) .1 in
-    wider R (suc n) (suc n) i (suc n) _ (R (suc n)) _ (omega arith) a b (record {
-      first = omega arith;
-      size = omega arith;
-      place = refl;
-      present = w .0;
-      change = λ z. w .1 (ap R (omega arith) ∙ z);
-      index = omega arith;
-    }))
-    (pairs-cases R n))
-    (lt-cases (i + i) (length (pairs R n)))
 
 -- Once present, present at each larger size, and no lower.
 pub falls : (R : ℕ → ℕ) → Falling R → (m k : ℕ) → m ≤ k → 0 < R m → (0 < R k) × (R k ≤ R m)

@@ -14,7 +14,7 @@ use Rattle.card.specs.Stretches.{starts}
 use Rattle.card.proofs.Tests.{by-lt, by-eq}
 use Rattle.sizes.specs.Moves.{takenOut, putIn, after, Falling}
 use Rattle.sizes.specs.Rows.{pairs}
-use Rattle.sizes.specs.Lists.{Holds, At, Level, Written}
+use Rattle.sizes.specs.Lists.{Holds, Begins, At, Level, Written, nextSize}
 
 pub lt-cases : (a b : ℕ) → (a < b) ⊎ (b ≤ a)
 lt-cases a b = by-lt a b inl inr
@@ -161,27 +161,75 @@ level-pairs R s e h lev =
     (λ k hk ih ke. pairs-flat R k (inr (lev k hk (omega arith) ∙ sym (lev (suc k) (omega arith) ke))) ∙ ih (omega arith))
     e h (omega arith)
 
--- The cursor at size t + 1: where the entry is that size, it moves on.
-pub moves : (J : ℕ → ℕ) (n t i v : ℕ) → Falling J → suc t ≤ n → At J t i v → getD (pairs J n) i 0 ≡ suc t → At J (suc t) (i + 2) (getD (pairs J n) (i + 1) 0)
-moves J n t i v good h a e =
-    ⊎-elim
-    (λ w. let q : getD (pairs J n) (length (pairs J (suc t))) 0 ≡ suc t = ap (λ l. getD (pairs J n) l 0) (ap length (w .1) ∙ sym (a .passed)) ∙ e in
-    absurd (⊎-elim (λ z. omega arith) (λ z. omega arith) (next-at J (suc t) n h)))
-    (λ w. record {
-      passed = omega (arith, a .passed, ap length (w .2) ∙ length-append (pairs J t) (suc t ∷ J (suc t) ∷ []));
-      place = ap (λ l. getD (pairs J n) (l + 1) 0) (a .passed) ∙ start-at J t n h (w .0) (w .1) .1;
-    })
-    (pairs-cases J t)
+-- The next size of a list at an entry: past the last one where it has no more stretches, else what the entry says.
+pub next-none : (xs : List ℕ) (n i : ℕ) → getD xs i 0 ≡ 0 → nextSize xs n i ≡ n + 1
+unfolding nextSize
+next-none xs n i e = simp (eq-eqb (getD xs i 0) 0 e)
 
-pub stands : (J : ℕ → ℕ) (n t i v : ℕ) → Falling J → suc t ≤ n → At J t i v → (getD (pairs J n) i 0 ≡ suc t → ⊥) → At J (suc t) i v
-stands J n t i v good h a ne =
+pub next-some : (xs : List ℕ) (n i : ℕ) → (getD xs i 0 ≡ 0 → ⊥) → nextSize xs n i ≡ getD xs i 0
+unfolding nextSize
+next-some xs n i ne = simp (ne-eqb (getD xs i 0) 0 ne)
+
+next-entry : (R : ℕ → ℕ) (n t i v x : ℕ) → At R n t i v x → getD (pairs R n) i 0 ≡ getD (pairs R n) (length (pairs R t)) 0
+next-entry R n t i v x a = ap (λ (k : ℕ). getD (pairs R n) k 0) (a .passed)
+
+-- What that is for a cursor.
+next-cases : (R : ℕ → ℕ) (n t i v x : ℕ) → t ≤ n → At R n t i v x → ((getD (pairs R n) i 0 ≡ 0) × (x ≡ n + 1)) ⊎ ((getD (pairs R n) i 0 ≡ x) × (t < x) × (x ≤ n))
+next-cases R n t i v x h a =
+    let e = next-entry R n t i v x a in
     ⊎-elim
-    (λ w. record {
-      passed = a .passed ∙ sym (ap length (w .1));
-      place = a .place ∙ ⊎-elim (λ z. ⊎-elim (λ pos. absurd (omega (arith, good .falls t pos .0))) (λ le. omega arith) (lt-cases 0 (J t))) (λ z. z) (w .0);
-    })
-    (λ w. absurd (ne (ap (λ l. getD (pairs J n) l 0) (a .passed) ∙ start-at J t n h (w .0) (w .1) .0)))
-    (pairs-cases J t)
+    (λ z. inl (e ∙ z, a .next ∙ next-none (pairs R n) n i (e ∙ z)))
+    (λ w. let ex : x ≡ getD (pairs R n) i 0 = a .next ∙ next-some (pairs R n) n i (λ z. omega arith) in
+    inr (sym ex, omega arith, omega arith))
+    (next-at R t n h)
+
+pub at-later : (R : ℕ → ℕ) (n t i v x : ℕ) → t ≤ n → At R n t i v x → (t < x) × (x ≤ n + 1)
+at-later R n t i v x h a = ⊎-elim (λ w. (omega arith, omega arith)) (λ w. (omega arith, omega arith)) (next-cases R n t i v x h a)
+
+-- A cursor stands still up to its next size.
+pub at-still : (R : ℕ → ℕ) (n t i v x u : ℕ) → Falling R → t ≤ n → At R n t i v x → t ≤ u → u < x → At R n u i v x
+at-still R n t i v x u good h a tu ux =
+    let e = next-entry R n t i v x a in
+    let same = hold R n t good u tu (omega (arith, at-later R n t i v x h a)) (⊎-elim (λ w. inl (sym e ∙ w .0)) (λ w. inr (omega arith)) (next-cases R n t i v x h a)) in
+    record { passed = a .passed ∙ sym (same .0); place = a .place ∙ sym (same .1); next = a .next }
+
+pub at-level : (R : ℕ → ℕ) (n t i v x e : ℕ) → Falling R → t ≤ n → At R n t i v x → e < x → Level R t e
+at-level R n t i v x e good h a ex m tm me = sym (at-still R n t i v x m good h a tm (omega arith) .place) ∙ a .place
+
+-- What a slice says of the next size, and of a cursor at the beginning.
+next-same : (R : ℕ → ℕ) (xs : List ℕ) (n i x : ℕ) → Begins xs R n → i ≤ length (pairs R n) → x ≡ nextSize xs n i → x ≡ nextSize (pairs R n) n i
+unfolding nextSize
+next-same R xs n i x begins h e = e ∙ ap (λ (z : ℕ). cond (eqb z 0) (n + 1) z) (begins i h)
+
+pub at-first : (R : ℕ → ℕ) (xs : List ℕ) (n x : ℕ) → Falling R → Begins xs R n → x ≡ nextSize xs n 0 → At R n 0 0 0 x
+at-first R xs n x good begins e = record { passed = sym (ap length (pairs-zero R)); place = omega (arith, good .fits 0); next = next-same R xs n 0 x begins (omega arith) e }
+
+-- Where the next entry is the size after t, the two entries from there on are its own.
+pub moves : (R : ℕ → ℕ) (n t i : ℕ) → suc t ≤ n → i ≡ length (pairs R t) → getD (pairs R n) i 0 ≡ suc t → (i + 2 ≡ length (pairs R (suc t))) × (getD (pairs R n) (i + 1) 0 ≡ R (suc t))
+moves R n t i h ei e =
+    ⊎-elim
+    (λ w. let q : getD (pairs R n) (length (pairs R (suc t))) 0 ≡ suc t = ap (λ l. getD (pairs R n) l 0) (ap length (w .1) ∙ sym ei) ∙ e in
+    absurd (⊎-elim (λ z. omega arith) (λ z. omega arith) (next-at R (suc t) n h)))
+    (λ w. (omega (arith, ei, ap length (w .2) ∙ length-append (pairs R t) (suc t ∷ R (suc t) ∷ [])), ap (λ l. getD (pairs R n) (l + 1) 0) ei ∙ start-at R t n h (w .0) (w .1) .1))
+    (pairs-cases R t)
+
+-- At its next size a cursor moves on by two entries.
+pub at-next : (R : ℕ → ℕ) (xs : List ℕ) (n t i v x w y : ℕ) → Falling R → Begins xs R n → t ≤ n → x ≤ n → At R n t i v x → w ≡ getD xs (i + 1) 0 → y ≡ nextSize xs n (i + 2) → At R n x (i + 2) w y
+at-next R xs n t i v x w y good begins h hx a ew ey =
+    ⊎-elim (λ k. absurd (omega arith))
+    (λ k.
+    let ex : suc (x - 1) ≡ x = omega arith in
+    let before = at-still R n t i v x (x - 1) good h a (omega arith) (omega arith) in
+    let m = subst (λ (z : ℕ). (i + 2 ≡ length (pairs R z)) × (getD (pairs R n) (i + 1) 0 ≡ R z)) ex (moves R n (x - 1) i (omega arith) (before .passed) (k .0 ∙ sym ex)) in
+    let within : i + 2 ≤ length (pairs R n) = omega (arith, m .0, len-le R x n hx) in
+    record { passed = m .0; place = ew ∙ begins (i + 1) (omega arith) ∙ m .1; next = next-same R xs n (i + 2) y begins within ey })
+    (next-cases R n t i v x h a)
+
+-- Past the end of its slice a cursor has no next size.
+pub at-end : (R : ℕ → ℕ) (xs : List ℕ) (n t i v x : ℕ) → Begins xs R n → t ≤ n → length xs ≤ i → At R n t i v x → n < x
+at-end R xs n t i v x begins h hi a =
+    let e : getD (pairs R n) i 0 ≡ 0 = sym (begins i (omega (arith, a .passed, len-le R t n h))) ∙ List·getD-eq-default xs 0 {n = i} hi in
+    ⊎-elim (λ k. omega arith) (λ k. absurd (omega arith)) (next-cases R n t i v x h a)
 
 -- Putting in: a block above p keeps its place, one at p or below goes one lower, and one at the last place is gone.
 pub put-low : (p m x : ℕ) → x < p → putIn p m x ≡ x
@@ -256,22 +304,6 @@ after-good J L p hp gj gl = record { fits = within; falls = stays }
         ⊎-elim (λ w. omega arith) (⊎-elim (λ w. omega arith) (⊎-elim (λ w. omega arith) (λ w. absurd (omega arith)))) (put-cases p m (takenOut (J m) (L m))))
         (lt-cases (takenOut (J (suc m)) (L (suc m))) p)
 
--- The same cursor under other names.
-pub at-eq : (J : ℕ → ℕ) (s s2 i v v2 : ℕ) → s ≡ s2 → v ≡ v2 → At J s2 i v2 → At J s i v
-at-eq J s s2 i v v2 es ev a = record { passed = a .passed ∙ ap (λ z. length (pairs J z)) (sym es); place = ev ∙ a .place ∙ ap J (sym es) }
-
-pub moved : (J : ℕ → ℕ) (n t s i v r w : ℕ) → Falling J → s ≡ suc t → s ≤ n → At J t i v → r ≡ getD (pairs J n) i 0 → r ≡ s → w ≡ getD (pairs J n) (i + 1) 0 → At J s (i + 2) w
-moved J n t s i v r w good es hs a er ers ew = at-eq J s (suc t) (i + 2) w (getD (pairs J n) (i + 1) 0) es ew (moves J n t i v good (omega arith) a (sym er ∙ ers ∙ es))
-
-pub stood : (J : ℕ → ℕ) (n t s i v r : ℕ) → Falling J → s ≡ suc t → s ≤ n → At J t i v → r ≡ getD (pairs J n) i 0 → (r ≡ s → ⊥) → At J s i v
-stood J n t s i v r good es hs a er ne = at-eq J s (suc t) i v v es refl (stands J n t i v good (omega arith) a (λ e. ne (er ∙ e ∙ sym es)))
-
--- c is the entry after those of sizes 1 to s: nothing changes before it, nor at all where it is no later size.
-pub until-law : (J : ℕ → ℕ) (n s i c m : ℕ) → Falling J → i ≡ length (pairs J s) → c ≡ getD (pairs J n) i 0 → s ≤ m → m ≤ n → (m < c) ⊎ ((c ≤ s) ⊎ (n < c)) → J m ≡ J s
-until-law J n s i c m good ei ec hs hn d =
-    let e : c ≡ getD (pairs J n) (length (pairs J s)) 0 = ec ∙ ap (λ z. getD (pairs J n) z 0) ei in
-    hold J n s good m hs hn (⊎-elim (λ lt. inr (omega arith)) (λ no. inl (⊎-elim (λ z. z) (λ z. absurd (⊎-elim (λ u. omega arith) (λ u. omega arith) no)) (next-at J s n (omega arith)))) d) .1
-
 -- The size s after t, by its own name.
 pub start-s : (R : ℕ → ℕ) (t s : ℕ) → s ≡ suc t → 0 < R s → (R t ≡ R s → ⊥) → pairs R s ≡ pairs R t ++ (s ∷ R s ∷ [])
 start-s R t s es = subst (λ (z : ℕ). 0 < R z → (R t ≡ R z → ⊥) → pairs R z ≡ pairs R t ++ (z ∷ R z ∷ [])) (sym es) (pairs-start R t)
@@ -306,41 +338,59 @@ written-more out q R t s r fits er e w = record { count = omega (arith, w .count
         (eq-cases x q))
         (lt-cases x q)
 
+-- A block that is absent before a read is so after it.
+pub after-absent : (J : ℕ → ℕ) (p : ℕ) (L : ℕ → ℕ) (m : ℕ) → 0 < p → L m ≡ 0 → after J p L m ≡ 0
+unfolding after
+after-absent J p L m hp none =
+    let e : takenOut (J m) (L m) ≡ 0 = omega (arith, taken-le (J m) (L m), none) in
+    ap (putIn p m) e ∙ put-low p m 0 hp
+
 -- What the merge has done once the sizes up to t are done.
-pub record State (J L : ℕ → ℕ) (p : ℕ) (out : List ℕ) (t q last xi xv yi yv : ℕ) : Type 0 where
-  pub read : At J t xi xv
-  pub other : At L t yi yv
+pub record State (J L : ℕ → ℕ) (p n : ℕ) (out : List ℕ) (t q last xi xv x yi yv y : ℕ) : Type 0 where
+  pub within : t ≤ n
+  pub read : At J n t xi xv x
+  pub other : At L n t yi yv y
   pub done : Written out q (after J p L) t
   pub place : last ≡ after J p L t
 
-pub at-none : (J : ℕ → ℕ) → Falling J → At J 0 0 0
-at-none J good = record { passed = sym (ap length (pairs-zero J)); place = omega (arith, good .fits 0) }
+-- Before the other's first size y there is nothing to do.
+pub state-first : (J L : ℕ → ℕ) (p n : ℕ) (out : List ℕ) (t xi xv x y : ℕ) → 0 < p → Falling L → t ≡ y - 1 → At L n 0 0 0 y → At J n t xi xv x → State J L p n out t 0 0 xi xv x 0 0 y
+state-first J L p n out t xi xv x y hp gl et first a =
+    let later = at-later L n 0 0 0 y (omega arith) first in
+    let none : (m : ℕ) → m ≤ t → after J p L m ≡ 0 = λ m h. after-absent J p L m hp (sym (at-still L n 0 0 0 y m gl (omega arith) first (omega arith) (omega arith) .place)) in
+    let same : pairs (after J p L) t ≡ [] = level-pairs (after J p L) 0 t (omega arith) (λ m h0 hm. none m hm ∙ sym (none 0 (omega arith))) ∙ pairs-zero (after J p L) in
+    record {
+      within = omega arith;
+      read = a;
+      other = at-still L n 0 0 0 y t gl (omega arith) first (omega arith) (omega arith);
+      done = record { count = sym (ap length same); same = λ k h. absurd (omega arith) };
+      place = sym (none t (omega arith));
+    }
 
-pub state-none : (J L : ℕ → ℕ) (p : ℕ) (out : List ℕ) → 0 < p → Falling J → Falling L → State J L p out 0 0 0 0 0 0 0
-state-none J L p out hp gj gl = record {
-  read = at-none J gj;
-  other = at-none L gl;
-  done = record { count = sym (ap length (pairs-zero (after J p L))); same = λ x h. absurd (omega arith) };
-  place = omega (arith, after-good J L p hp gj gl .fits 0);
-}
+-- Up to size e the new places stand still where both cursors do, but where the block is pushed out of size s.
+new-level : (J L : ℕ → ℕ) (p s e r l : ℕ) → 0 < p → Falling L → l ≡ L s → r ≡ after J p L s → (r ≡ 0 → 0 < l → e ≡ s) → Level J s e → Level L s e → Level (after J p L) s e
+new-level J L p s e r l hp gl el er pushed lj ll =
+    ⊎-elim (λ pos. after-level J L p s e hp (gl .fits s) lj ll (inr (omega arith)))
+    (λ out. ⊎-elim (λ there m hs he. ap (after J p L) (omega (arith, pushed (omega arith) there))) (λ none. after-level J L p s e hp (gl .fits s) lj ll (inl (omega arith))) (lt-cases 0 l))
+    (lt-cases 0 r)
 
-pub at-level : (J : ℕ → ℕ) (s e i v : ℕ) → s ≤ e → Level J s e → At J s i v → At J e i v
-at-level J s e i v h lev a = record { passed = a .passed ∙ ap length (sym (level-pairs J s e h lev)); place = a .place ∙ sym (lev e h (omega arith)) }
+pub state-next : (J L : ℕ → ℕ) (p n : ℕ) (out : List ℕ) (s e q r xi xv x yi yv y : ℕ) → 0 < p → Falling J → Falling L → s ≤ n → s ≤ e → (s < x → e < x) × (s < y → e < y) → (r ≡ 0 → 0 < yv → e ≡ s) → At J n s xi xv x → At L n s yi yv y → Written out q (after J p L) s → r ≡ after J p L s → State J L p n out e q r xi xv x yi yv y
+state-next J L p n out s e q r xi xv x yi yv y hp gj gl hs h still pushed a b w er =
+    let ax = at-later J n s xi xv x hs a in
+    let ex : e < x = still .0 (ax .0) in
+    let ey : e < y = still .1 (at-later L n s yi yv y hs b .0) in
+    let lev = new-level J L p s e r yv hp gl (b .place) er pushed (at-level J n s xi xv x e gj hs a ex) (at-level L n s yi yv y e gl hs b ey) in
+    record {
+      within = omega arith;
+      read = at-still J n s xi xv x e gj hs a h ex;
+      other = at-still L n s yi yv y e gl hs b h ey;
+      done = written-eq out q (after J p L) s e (level-pairs (after J p L) s e h lev) w;
+      place = er ∙ sym (lev e h (omega arith));
+    }
 
-pub state-next : (J L : ℕ → ℕ) (p : ℕ) (out : List ℕ) (s e q r xi xv yi yv : ℕ) → s ≤ e → Level J s e × Level L s e × Level (after J p L) s e → At J s xi xv → At L s yi yv → Written out q (after J p L) s → r ≡ after J p L s → State J L p out e q r xi xv yi yv
-state-next J L p out s e q r xi xv yi yv h lev a b w er = record {
-  read = at-level J s e xi xv h (lev .0) a;
-  other = at-level L s e yi yv h (lev .1) b;
-  done = written-eq out q (after J p L) s e (level-pairs (after J p L) s e h (lev .2)) w;
-  place = er ∙ sym (lev .2 e h (omega arith));
-}
-
-pub rule-after : (J L : ℕ → ℕ) (p s r xi xv yi yv : ℕ) → At J s xi xv → At L s yi yv → r ≡ putIn p s (takenOut xv yv) → r ≡ after J p L s
+pub rule-after : (J L : ℕ → ℕ) (p n s r xi xv x yi yv y : ℕ) → At J n s xi xv x → At L n s yi yv y → r ≡ putIn p s (takenOut xv yv) → r ≡ after J p L s
 unfolding after
-rule-after J L p s r xi xv yi yv a b e = e ∙ ap (λ (z : ℕ). putIn p s (takenOut z yv)) (a .place) ∙ ap (λ (z : ℕ). putIn p s (takenOut (J s) z)) (b .place)
-
-pub here : (J : ℕ → ℕ) (s i v : ℕ) → At J s i v → At J s i (J s)
-here J s i v a = record { passed = a .passed; place = refl }
+rule-after J L p n s r xi xv x yi yv y a b e = e ∙ ap (λ (z : ℕ). putIn p s (takenOut z yv)) (a .place) ∙ ap (λ (z : ℕ). putIn p s (takenOut (J s) z)) (b .place)
 
 -- At the end: the stretches, and zeros after them.
 pub holds-all : (out last : List ℕ) (q : ℕ) (R : ℕ → ℕ) (n : ℕ) → Written out q R n → ((x : ℕ) → x < q → getD last x 0 ≡ getD out x 0) → ((x : ℕ) → q ≤ x → getD last x 0 ≡ 0) → Holds last R n

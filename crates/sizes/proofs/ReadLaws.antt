@@ -15,9 +15,10 @@ use Rattle.card.proofs.NextPlaces.{run-more}
 use Rattle.sizes.specs.Moves.{Falling, newOf}
 use Rattle.sizes.specs.Totals.{Totals, sumTo, mostTo}
 use Rattle.sizes.specs.Rows.{pairs, rowLength, Row, Held, placesAt}
-use Rattle.sizes.specs.Lists.{Found}
+use Rattle.sizes.specs.Sweeps.{Found}
 use Rattle.sizes.specs.Tallies.{Tallied}
-use Rattle.sizes.specs.TallySteps.{Listed, ReadTallied}
+use Rattle.sizes.specs.Lists.{Holds}
+use Rattle.sizes.specs.TallySteps.{ReadTallied}
 use Rattle.sizes.proofs.PairLists.{pairs-same}
 use Rattle.sizes.proofs.Families.{family, falling, family-is}
 use Rattle.sizes.proofs.NewPlaces.{family-at, new-places}
@@ -91,7 +92,7 @@ module _ (n key p j : ℕ) (blocks area list : List ℕ) (here : j ≡ place blo
   }
 
   -- the tallies after the read
-  pub tallies-more : (counts counts′ : List ℕ) → ((J : ℕ → ℕ) → Falling J → Listed list J n → ReadTallied counts counts′ J n p)
+  pub tallies-more : (counts counts′ : List ℕ) → ((J : ℕ → ℕ) → Falling J → Holds list J n → ReadTallied counts counts′ J n p)
       → Tallied n rs counts → Tallied n (rs ++ (r ∷ [])) counts′
   tallies-more counts counts′ f t = tallied-more n p rs r counts counts′ J (λ m a b. refl) (sym ep) (f J falls listed) t
 

@@ -10,7 +10,8 @@ use mathlib.Core.Logic.{⊎-elim}
 use lib.ListN.{List·getD-eq-default}
 use Rattle.sizes.specs.Moves.{Falling}
 use Rattle.sizes.specs.Rows.{pairs, rowLength, Row}
-use Rattle.sizes.specs.Lists.{Kept, Holds, Ends}
+use Rattle.sizes.specs.Lists.{Holds, Ends}
+use Rattle.sizes.specs.Sweeps.{Kept}
 use Rattle.sizes.proofs.PairLaws.{lt-cases}
 use Rattle.sizes.proofs.PairFacts.{pairs-fit, ends}
 

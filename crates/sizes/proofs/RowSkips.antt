@@ -1,16 +1,13 @@
 -- Lists that a read leaves as they are.
 use mathlib.Core.Path.{_≡_, sym, ap, _∙_}
 use mathlib.Core.Logic.{_⊎_, inl, inr, ⊎-elim}
-use mathlib.Core.List.{List}
 use Prim.Native.Nat.{ℕ, _-_, _≤_, _<_}
 use native.Mathlib.Omega.{arith}
 use lib.ListN.{length, getD}
-use Rattle.sizes.specs.Moves.{takenOut, putIn, after, Falling, sourceOf, newOf}
-use Rattle.sizes.specs.Rows.{pairs, Row}
-use Rattle.sizes.proofs.PairLaws.{lt-cases, taken-cases, taken-le, put-low, put-high, hold, pairs-zero}
-use Rattle.sizes.proofs.PairFacts.{pair, falls, in-list}
-use Rattle.sizes.proofs.PairLists.{pairs-same}
-use Rattle.sizes.proofs.RowLaws.{new-other}
+use Rattle.sizes.specs.Moves.{takenOut, putIn, after, Falling}
+use Rattle.sizes.specs.Rows.{pairs}
+use Rattle.sizes.proofs.PairLaws.{lt-cases, taken-cases, taken-le, put-low, put-high, hold, moves, pairs-zero}
+use Rattle.sizes.proofs.PairFacts.{two, falls, entries, in-list}
 
 -- Where a block is present, the first size of its list has come, and the first place is no higher.
 pub first-bound : (R : ℕ → ℕ) (n m : ℕ) → Falling R → m ≤ n → 0 < R m → (0 < getD (pairs R n) 0 0) × (getD (pairs R n) 0 0 ≤ m) × (getD (pairs R n) 1 0 ≡ R (getD (pairs R n) 0 0)) × (R m ≤ getD (pairs R n) 1 0) × (0 < length (pairs R n))
@@ -22,8 +19,13 @@ first-bound R n m good hm pos =
     let hc : 0 < c = ⊎-elim (λ l. l) (λ ge. absurd (omega (arith, z, hold R n 0 good m (omega arith) hm (inl (omega arith)) .1))) (lt-cases 0 c) in
     let cm : c ≤ m = ⊎-elim (λ lt. absurd (omega (arith, z, hold R n 0 good m (omega arith) hm (inr (omega arith)) .1))) (λ ge. ge) (lt-cases m c) in
     let hl : 0 < length (pairs R n) = in-list R n 0 hc in
-    let p = pair R n 0 hl in
-    (hc, cm, p .place, omega (arith, p .place, falls R good c m cm (omega (arith, p .place, p .present)) .1), hl)
+    let none : length (pairs R (c - 1)) ≡ 0 = hold R n 0 good (c - 1) (omega arith) (omega arith) (inr (omega arith)) .0 ∙ e0 in
+    let place : getD (pairs R n) 1 0 ≡ R c = moves R n (c - 1) 0 (omega arith) (sym none) (omega arith) .1 ∙ ap R (omega arith) in
+    (hc, cm, place, omega (arith, place, falls R good c m cm (omega (arith, place, entries R n 1 (omega (arith, two R n)))) .1), hl)
+
+-- A block that is at size n or nowhere, and has an empty list, is nowhere.
+pub nowhere : (R : ℕ → ℕ) (n : ℕ) → Falling R → (0 < R n) ⊎ ((m : ℕ) → R m ≡ 0) → getD (pairs R n) 0 0 ≡ 0 → (m : ℕ) → R m ≡ 0
+nowhere R n good some e m = ⊎-elim (λ pos. absurd (omega (arith, first-bound R n n good (omega arith) pos .0))) (λ none. none m) some
 
 pub keep-above : (J L : ℕ → ℕ) (p n j x : ℕ) → 0 < p → Falling J → Falling L → j ≡ J n → x ≡ getD (pairs L n) 1 0 → x < p → (j ≡ 0) ⊎ (x < j) → (m : ℕ) → m ≤ n → after J p L m ≡ L m
 unfolding after
@@ -51,7 +53,3 @@ keep-below J L p n j k c x l hp gj gl ej ek ec ex el hj hx hpk hl m hm =
     ap (putIn p m) t ∙ put-high p m (L m - 1) (omega (arith, g .1)) (omega (arith, gl .fits m)) ∙ omega arith)
     (λ z. let t : takenOut (J m) (L m) ≡ 0 = omega (arith, taken-le (J m) (L m)) in ap (putIn p m) t ∙ put-low p m 0 hp ∙ omega arith)
     (lt-cases 0 (L m))
-
-pub keep-row : (area : List ℕ) (a w n p j k : ℕ) (J : ℕ → ℕ) (L : ℕ → ℕ → ℕ) → (k ≡ p → ⊥) → sourceOf p j k ≡ k → ((m : ℕ) → m ≤ n → after J p (L k) m ≡ L k m) → Row area a w (pairs (L k) n) → Row area a w (pairs (newOf J p j L k) n)
-keep-row area a w n p j k J L ne es same s q hq =
-    s q hq ∙ ap (λ (l : List ℕ). getD l q 0) (sym (pairs-same (newOf J p j L k) (L k) n (λ m hm. ap (λ (F : ℕ → ℕ). F m) (new-other J p j L k ne) ∙ ap (λ (z : ℕ). after J p (L z) m) es ∙ same m hm)))

@@ -1,17 +1,19 @@
 -- Lists of one stretch, and how a read moves them.
 use mathlib.Core.Path.{_≡_, sym, ap, _∙_}
-use mathlib.Core.Logic.{_⊎_, inl, ⊎-elim}
+use mathlib.Core.Logic.{_⊎_, ⊎-elim}
 use mathlib.Core.Bool.{cond}
-use mathlib.Core.List.{[], _∷_}
+use mathlib.Core.List.{List, [], _∷_}
 use Prim.Native.Nat.{ℕ, _+_, _-_, _≤_, _<_}
 use native.Mathlib.Omega.{arith}
 use lib.Dec.{eqb}
 use lib.ListN.{length, getD}
+use Rattle.card.specs.Stretches.{stretches}
 use Rattle.card.proofs.Tests.{by-lt, by-eq, tests}
 use Rattle.sizes.specs.Moves.{takenOut, putIn, after, Falling}
-use Rattle.sizes.specs.Rows.{pairs}
-use Rattle.sizes.proofs.PairLaws.{taken-cases, taken-le, put-low, put-high, put-out, hold}
-use Rattle.sizes.proofs.PairFacts.{pair, pairs-one, in-list, falls}
+use Rattle.sizes.specs.Rows.{pairs, Row}
+use Rattle.sizes.proofs.PairLaws.{taken-cases, taken-le, put-low, put-high, put-out}
+use Rattle.sizes.proofs.PairFacts.{two, pairs-one, falls}
+use Rattle.sizes.proofs.RowLaws.{row-first}
 use Rattle.sizes.proofs.RowSkips.{first-bound}
 
 module _ (L : ℕ → ℕ) (n c l : ℕ) where
@@ -24,25 +26,33 @@ module _ (L : ℕ → ℕ) (n c l : ℕ) where
     pub low : (m : ℕ) → m < c → L m ≡ 0
     pub high : (m : ℕ) → c ≤ m → m ≤ n → L m ≡ l
 
-  pub single : Falling L → c ≡ getD (pairs L n) 0 0 → l ≡ getD (pairs L n) 1 0 → 0 < c → getD (pairs L n) 2 0 ≡ 0 → Single
-  single fall ec el pos end =
-      let q = pair L n 0 (in-list L n 0 (omega arith)) in
-      let at : L c ≡ l = ap L ec ∙ sym (q .place) ∙ sym el in
-      let two : length (pairs L c) ≡ 2 = ap (λ (z : ℕ). length (pairs L z)) ec ∙ q .index in
-      let stop : getD (pairs L n) (length (pairs L c)) 0 ≡ 0 = ap (λ (z : ℕ). getD (pairs L n) z 0) two ∙ end in
+  -- its first place is its last, so it is there at every size between
+  single : Falling L → c ≡ getD (pairs L n) 0 0 → l ≡ getD (pairs L n) 1 0 → L n ≡ l → 0 < l → Single
+  single fall ec el en pos =
+      let b = first-bound L n n fall (omega arith) (omega arith) in
+      let at : L c ≡ l = ap L ec ∙ sym (b .2) ∙ sym el in
       record {
-        some = pos;
-        in-sizes = omega (arith, q .size);
-        place = omega (arith, q .present);
+        some = omega (arith, b .0);
+        in-sizes = omega (arith, b .1);
+        place = pos;
         within = omega (arith, fall .fits c);
-        low = λ m h. by-lt 0 (L m) (λ lt. absurd (omega (arith, first-bound L n m fall (omega (arith, q .size)) lt .1))) (λ le. omega arith);
-        high = λ m h hm. hold L n c fall m h hm (inl stop) .1 ∙ at;
+        low = λ m h. by-lt 0 (L m) (λ lt. absurd (omega (arith, first-bound L n m fall (omega (arith, b .1)) lt .1))) (λ le. omega arith);
+        high = λ m h hm. let f = falls L fall c m h (omega arith) in omega (arith, f .1, falls L fall m n hm (f .0) .1);
       }
 
-module _ (J L : ℕ → ℕ) (p n j c l : ℕ) (pos : 0 < p) (fall : Falling J) (ej : j ≡ J n) (one : Single L n c l) where
-  pub single-pairs : pairs L n ≡ c ∷ l ∷ []
-  single-pairs = pairs-one L n c l (one .some) (one .in-sizes) (one .place) (one .low) (one .high)
+  single-pairs : Single → pairs L n ≡ c ∷ l ∷ []
+  single-pairs one = pairs-one L n c l (one .some) (one .in-sizes) (one .place) (one .low) (one .high)
 
+  -- as many stretches as any other list of one
+  pub stretches-still : Single → (R : ℕ → ℕ) (x y : ℕ) → pairs R n ≡ x ∷ y ∷ [] → stretches R n ≡ stretches L n
+  stretches-still one R x y e = omega (arith, two R n, ap length e, two L n, ap length (single-pairs one))
+
+-- by the first two numbers of its row
+pub single-row : (area : List ℕ) (from w n s : ℕ) (L : ℕ → ℕ) → 2 ≤ w → 0 < s → getD area (from + 1) 0 ≡ s → L n ≡ s → Falling L → Row area from w (pairs L n) → Single L n (getD area from 0) s
+single-row area from w n s L wide pos es en fall row =
+    single L n (getD area from 0) s fall (row-first area from w n L (omega arith) row) (sym es ∙ row 1 (omega arith)) en pos
+
+module _ (J L : ℕ → ℕ) (p n j c l : ℕ) (pos : 0 < p) (fall : Falling J) (ej : j ≡ J n) (one : Single L n c l) where
   -- where it is absent it stays so
   after-low : (m : ℕ) → m < c → after J p L m ≡ 0
   unfolding after

@@ -9,7 +9,8 @@ use Rattle.card.specs.Stretches.{stretches}
 use Rattle.card.proofs.Tests.{by-lt, by-eq, tests}
 use Rattle.sizes.specs.Rows.{pairs}
 use Rattle.sizes.specs.Moves.{Falling}
-use Rattle.sizes.specs.TallySteps.{Listed, Passed, Begins}
+use Rattle.sizes.specs.Lists.{Holds}
+use Rattle.sizes.specs.TallySteps.{Passed, Begins}
 
 module _ (J : ℕ → ℕ) where
   -- a size at which no stretch starts, and one at which one does
@@ -122,7 +123,7 @@ module _ (J : ℕ → ℕ) where
         (λ s. new-place n i s (omega (arith, s .number)))))
         (λ d. pairs-more n (2 * i + 1) (omega (arith, stretches-rise m n (omega arith))) ∙ lasts n m i (omega arith) e)
 
-module _ (list : List ℕ) (J : ℕ → ℕ) (n most i : ℕ) (fall : Falling J) (holds : Listed list J n) where
+module _ (list : List ℕ) (J : ℕ → ℕ) (n most i : ℕ) (fall : Falling J) (holds : Holds list J n) where
   -- no stretch is passed at the start
   pub passed-none : i ≡ 0 → Passed J n most i
   passed-none e m h l k = none J fall m (omega arith)

@@ -6,8 +6,12 @@ use Rattle.terms.specs.Ranges.{size}
 use Rattle.sizes.specs.Rows.{rowLength}
 use Rattle.sizes.specs.Outcome.{stretchesLength}
 
+-- the code's LIST_ROOM
+abbrev pub listRoom : ℕ
+listRoom = 130
+
 -- an array of a read holds the longest list and two zeros
-pub list-room : (n : ℕ) → n ≤ size .largest → rowLength n + 2 ≤ 130
+pub list-room : (n : ℕ) → n ≤ size .largest → rowLength n + 2 ≤ listRoom
 unfolding size
 list-room n h = omega arith
 

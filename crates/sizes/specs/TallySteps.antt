@@ -6,7 +6,6 @@ use mathlib.Core.List.{List}
 use lib.Dec.{ltb, leb}
 use lib.ListN.{getD, set}
 use Rattle.card.specs.Stretches.{stretches}
-use Rattle.sizes.specs.Rows.{pairs}
 use Rattle.sizes.specs.Tallies.{Sums, isOutcome}
 
 -- one more in tally k of size m, where m is a size
@@ -17,10 +16,6 @@ bumped counts n k m = cond (leb m n) (set counts (6 * (m - 1) + k) (getD counts 
 unfoldable pub begun : List ℕ → (n first p : ℕ) → List ℕ
 begun counts n first p =
     cond (ltb p first) (bumped (bumped counts n 4 p) n 0 first) (bumped (bumped counts n 3 first) n 5 p)
-
--- a list holds the stretches of a block with these places, and zeros after them
-abbrev pub Listed : List ℕ → (ℕ → ℕ) → ℕ → Type 0
-Listed list J n = (q : ℕ) → getD list q 0 ≡ getD (pairs J n) q 0
 
 -- none of the first i stretches has a place up to `most`
 abbrev pub Passed : (ℕ → ℕ) → (n most i : ℕ) → Type 0

@@ -1,20 +1,19 @@
 // One read, for all sizes at once.
+use crate::lists::LIST_ROOM;
 use crate::numbers::larger;
 use crate::rows::Changes;
 use crate::rows::load;
-use crate::rows::renew_all;
+use crate::sweeps::renew_all;
 use crate::tallies::tally;
 use card::places::at_least_one;
-use card::places::place_of;
 ghost use mathlib.Core.Path.{_≡_};
 ghost use mathlib.Core.List.{List, [], _∷_, _++_};
-ghost use Prim.Native.Nat.{ℕ, _+_, _-_, _*_, _^_, _<_, _≤_, max};
+ghost use Prim.Native.Nat.{ℕ, _+_, _-_, _^_, _<_, _≤_, max};
 ghost use lib.ListN.{length, getD};
 ghost use Rattle.terms.specs.Ranges.{size};
 ghost use Rattle.terms.specs.Reads.{Read};
 ghost use Rattle.card.specs.Run.{blockRead, wanted};
-ghost use Rattle.sizes.specs.Rows.{Held, Row, rowLength, pairs};
-ghost use Rattle.sizes.specs.Moves.{Falling};
+ghost use Rattle.sizes.specs.Rows.{Held, rowLength};
 ghost use Rattle.sizes.specs.Tallies.{Tallied};
 ghost use Rattle.sizes.specs.Totals.{Totals};
 ghost use Rattle.sizes.specs.Outcome.{stretchesLength, countsLength};
@@ -24,16 +23,6 @@ pub struct Sums {
     pub now: usize,
     pub most: usize,
     pub one: usize,
-}
-
-// The list of the block at place j of the largest card, none where j is 0; it has room for the longest list and two zeros.
-fn list_of(area: &[u16], n: usize, j: usize) -> [u16; 130]
-    requires { ⌜ (j ≤ n) × (n ≤ size .largest) × (n * rowLength n ≤ length (now area)) ⌝ }
-    ensures { λ r. ⌜ (length r ≡ 130) × ((L : ℕ → ℕ) → Falling L → (j ≡ 0 → L n ≡ 0) → (0 < j → Row (now (area .entry)) ((j - 1) * rowLength n) (rowLength n) (pairs L n)) → (q : ℕ) → getD r q 0 ≡ getD (pairs L n) q 0) ⌝ }
-{
-    let mut list = [0u16; 130];
-    load(area, n, j, &mut list);
-    list
 }
 
 // The sums after the changes of one read.
@@ -48,16 +37,18 @@ fn summed(sums: Sums, changes: Changes) -> Sums
     Sums { now, most, one }
 }
 
+// What the scratch holds does not matter, neither before nor after.
 pub fn read(
     blocks: &mut [u64],
     stretches: &mut [u16],
     counts: &mut [u64],
+    scratch: &mut [u16],
     n: usize,
     key: u64,
     priority: usize,
     sums: Sums,
 ) -> Sums
-    requires { ⌜ (1 ≤ n) × (n ≤ size .largest) × (length (now blocks) ≡ n) × (length (now stretches) ≡ stretchesLength n) × (length (now counts) ≡ countsLength n)
+    requires { ⌜ (1 ≤ n) × (n ≤ size .largest) × (length (now blocks) ≡ n) × (length (now stretches) ≡ stretchesLength n) × (length (now counts) ≡ countsLength n) × (rowLength n < length (now scratch))
         × (0 < key) × ((x : ℕ) → getD (now counts) x 0 < 2 ^ 63)
         × ((rs : List Read) × Held n rs (now blocks) (now stretches) × Totals n rs (sums .now) (sums .most) (sums .one)) ⌝ }
     ensures held { λ s. ⌜ ((rs : List Read) (r : Read) → blockRead r ≡ key → wanted r ≡ max 1 priority → Held n rs (now (blocks .entry)) (now (stretches .entry))
@@ -69,10 +60,10 @@ pub fn read(
     ensures small { λ s. ⌜ ((x : ℕ) → getD (now (counts .exit)) x 0 ≤ getD (now (counts .entry)) x 0 + 1) ⌝ }
 {
     let p = at_least_one(priority);
-    let j = place_of(blocks, key);
-    let list = list_of(stretches, n, j);
+    let was = card::places::read(blocks, key, priority);
+    let mut list = [0u16; LIST_ROOM];
+    load(stretches, n, was.place, &mut list);
     tally(counts, &list, n, p);
-    let changes = renew_all(stretches, &list, n, p, j);
-    card::places::read(blocks, key, priority);
+    let changes = renew_all(stretches, &list, scratch, n, p, was.place);
     summed(sums, changes)
 }

@@ -4,4 +4,5 @@ mod lists;
 mod numbers;
 mod rows;
 pub mod run;
+mod sweeps;
 mod tallies;

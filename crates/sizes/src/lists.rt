@@ -1,16 +1,21 @@
 // Lists of stretches: for each its first size and its place, and zeros after the last.
+use crate::numbers::smaller;
 ghost use mathlib.Core.Path.{_≡_};
 ghost use mathlib.Core.List.{[], _∷_};
-ghost use Prim.Native.Nat.{ℕ, suc, _+_, _<_, _≤_};
+ghost use Prim.Native.Nat.{ℕ, suc, _+_, _^_, _<_, _≤_};
 ghost use lib.ListN.{length, getD};
 ghost use Rattle.sizes.specs.Rows.{pairs, rowLength};
 ghost use Rattle.sizes.specs.Moves.{takenOut, putIn, after, Falling};
-ghost use Rattle.sizes.specs.Lists.{Holds, Begins, Ends, At, Level, Written};
+ghost use Rattle.sizes.specs.Lists.{Holds, Begins, Ends, At, Written, nextSize};
 
-// A cursor into a list of stretches: the entries passed, and the place now in force.
+// Room for the longest list of a block and two zeros.
+pub const LIST_ROOM: usize = 130;
+
+// A cursor into a list of stretches: the entries passed, the place now in force, and the first size of the next stretch, past every size where there is none.
 pub struct Cursor {
     pub passed: usize,
     pub place: u16,
+    pub next: u16,
 }
 
 // The place of another block once the block at place j has been taken out.
@@ -59,65 +64,81 @@ fn entry(list: &[u16], i: usize) -> u16
     0
 }
 
-// The cursor at size s, from the cursor at the size before.
-fn advance(list: &[u16], cursor: Cursor, s: u16) -> Cursor
-    ensures { λ r. ⌜ ((J : ℕ → ℕ) (n t : ℕ) → Falling J → Begins (now (list .entry)) J n → s ≡ suc t → s ≤ n → At J t (cursor .passed) (cursor .place) → At J s (r .passed) (r .place)) ⌝ }
+// The first size of the stretch at i, past every size where there is none.
+fn next_size(list: &[u16], i: usize, n: u16) -> u16
+    requires { ⌜ n < 65535 ⌝ }
+    ensures { λ r. ⌜ (0 < r) × (r ≡ nextSize (now (list .entry)) n i) ⌝ }
+{
+    let first = entry(list, i);
+    if first == 0 {
+        return n + 1;
+    }
+    first
+}
+
+// The cursor at the first size of the next stretch.
+fn next_stretch(list: &[u16], cursor: Cursor, n: u16) -> Cursor
+    requires { ⌜ (n < 65535) × (cursor .passed + 2 < 2 ^ 64) ⌝ }
+    ensures passed { λ r. ⌜ r .passed ≡ cursor .passed + 2 ⌝ }
+    ensures at { λ r. ⌜ ((J : ℕ → ℕ) (t : ℕ) → Falling J → Begins (now (list .entry)) J n → t ≤ n → cursor .next ≤ n → At J n t (cursor .passed) (cursor .place) (cursor .next) → At J n (cursor .next) (r .passed) (r .place) (r .next)) ⌝ }
 {
     let i = cursor.passed;
-    if i < list.len() {
-        if list[i] == s {
-            return Cursor {
-                passed: i + 2,
-                place: entry(list, i + 1),
-            };
-        }
+    Cursor {
+        passed: i + 2,
+        place: entry(list, i + 1),
+        next: next_size(list, i + 2, n),
+    }
+}
+
+// The cursor at size s, from the cursor at the size before.
+fn advance(list: &[u16], cursor: Cursor, s: u16, n: u16) -> Cursor
+    requires { ⌜ (n < 65535) × (cursor .passed + 2 < 2 ^ 64) ⌝ }
+    ensures passed { λ r. ⌜ r .passed ≤ cursor .passed + 2 ⌝ }
+    ensures at { λ r. ⌜ ((J : ℕ → ℕ) (t : ℕ) → Falling J → Begins (now (list .entry)) J n → s ≡ suc t → s ≤ n → At J n t (cursor .passed) (cursor .place) (cursor .next) → At J n s (r .passed) (r .place) (r .next)) ⌝ }
+{
+    if cursor.next == s {
+        return next_stretch(list, cursor, n);
     }
     cursor
 }
 
-// The last size before the next stretch: n where there is none.
-fn until(list: &[u16], i: usize, s: u16, n: u16) -> u16
-    requires { ⌜ s ≤ n ⌝ }
-    ensures range { λ r. ⌜ (s ≤ r) × (r ≤ n) ⌝ }
-    ensures level { λ r. ⌜ ((J : ℕ → ℕ) → Falling J → Begins (now (list .entry)) J n → i ≡ length (pairs J s) → Level J s r) ⌝ }
+// The cursor at size t. The search ends with the slice, whatever that holds.
+fn cursor_at(list: &[u16], t: u16, n: u16) -> Cursor
+    requires { ⌜ n < 65535 ⌝ }
+    ensures passed { λ r. ⌜ r .passed ≤ length (now (list .entry)) + 1 ⌝ }
+    ensures at { λ r. ⌜ ((J : ℕ → ℕ) → Falling J → Begins (now (list .entry)) J n → t ≤ n → At J n t (r .passed) (r .place) (r .next)) ⌝ }
 {
-    let first = entry(list, i);
-    if s < first {
-        if first <= n {
-            return first - 1;
+    let mut x = Cursor {
+        passed: 0,
+        place: 0,
+        next: next_size(list, 0, n),
+    };
+    while x.next <= t {
+        if list.len() <= x.passed {
+            return x;
         }
+        x = next_stretch(list, x, n);
     }
-    n
+    x
 }
 
-// The last size up to which both lists stand still.
-fn both_until(list: &[u16], other: &[u16], i: usize, k: usize, s: u16, n: u16) -> u16
-    requires { ⌜ s ≤ n ⌝ }
-    ensures range { λ r. ⌜ (s ≤ r) × (r ≤ n) ⌝ }
-    ensures first { λ r. ⌜ ((J : ℕ → ℕ) → Falling J → Begins (now (list .entry)) J n → i ≡ length (pairs J s) → Level J s r) ⌝ }
-    ensures second { λ r. ⌜ ((L : ℕ → ℕ) → Falling L → Begins (now (other .entry)) L n → k ≡ length (pairs L s) → Level L s r) ⌝ }
+// The last size from s on before the next sizes x and y at which the new place r stands still too: a block at l that is pushed out of size s may stay in the next.
+fn last_still(x: u16, y: u16, s: u16, l: u16, r: u16) -> u16
+    ensures range { λ e. ⌜ s ≤ e ⌝ }
+    ensures still { λ e. ⌜ (s < x → e < x) × (s < y → e < y) ⌝ }
+    ensures pushed { λ e. ⌜ (r ≡ 0 → 0 < l → e ≡ s) ⌝ }
 {
-    let x = until(list, i, s, n);
-    let y = until(other, k, s, n);
-    if x < y {
-        return x;
-    }
-    y
-}
-
-// The last size up to which the new place stands still too: a block that is pushed out of size s may stay in the next.
-fn new_until(list: &[u16], other: &[u16], i: usize, k: usize, s: u16, n: u16, l: u16, r: u16) -> u16
-    requires { ⌜ s ≤ n ⌝ }
-    ensures range { λ e. ⌜ (s ≤ e) × (e ≤ n) ⌝ }
-    ensures level { λ e. ⌜ ((J L : ℕ → ℕ) (p : ℕ) → 0 < p → Falling J → Falling L → Begins (now (list .entry)) J n → Begins (now (other .entry)) L n → At J s i (J s) → At L s k l → r ≡ after J p L s → Level J s e × Level L s e × Level (after J p L) s e) ⌝ }
-{
-    if l == 0 {
-        return both_until(list, other, i, k, s, n);
-    }
-    if r == 0 {
+    let next = smaller(x, y);
+    if next <= s {
         return s;
     }
-    both_until(list, other, i, k, s, n)
+    if 0 < r {
+        return next - 1;
+    }
+    if l == 0 {
+        return next - 1;
+    }
+    s
 }
 
 // Writes the stretch that begins at s, where one does.
@@ -154,31 +175,30 @@ pub fn fill(out: &mut [u16], q: usize)
     }
 }
 
-// The stretches of another block after a read at p, from the list of the block read and its own; answers how many entries they are.
+// The stretches of another block after a read at p, from the list of the block read and its own; answers how many entries they are. Before the other's first size there are none.
 pub fn merge(list: &[u16], other: &[u16], out: &mut [u16], p: u16, n: u16) -> usize
-    requires { ⌜ 0 < p ⌝ }
+    requires { ⌜ (0 < p) × (n < 65535) ⌝ }
     ensures range { λ x. ⌜ x ≤ length (now (out .entry)) ⌝ }
     ensures merged { λ x. ⌜ ((J L : ℕ → ℕ) → Falling J → Falling L → Begins (now (list .entry)) J n → Begins (now (other .entry)) L n → Ends (now (out .entry)) 0 → length (pairs (after J p L) n) ≤ length (now (out .entry)) → (x ≡ length (pairs (after J p L) n)) × Holds (now (out .exit)) (after J p L) n) ⌝ }
 {
-    let mut t: u16 = 0;
+    let first = next_size(other, 0, n);
+    let mut t = first - 1;
     let mut q: usize = 0;
     let mut last: u16 = 0;
-    let mut x = Cursor {
-        passed: 0,
-        place: 0,
-    };
+    let mut x = cursor_at(list, t, n);
     let mut y = Cursor {
         passed: 0,
         place: 0,
+        next: first,
     };
     while t < n {
         let s = t + 1;
-        x = advance(list, x, s);
-        y = advance(other, y, s);
+        x = advance(list, x, s, n);
+        y = advance(other, y, s, n);
         let r = new_place(x.place, p, s, y.place);
         q = push(out, q, s, r, last);
         last = r;
-        t = new_until(list, other, x.passed, y.passed, s, n, y.place, r);
+        t = last_still(x.next, y.next, s, y.place, r);
     }
     fill(out, q);
     q

@@ -1,6 +1,6 @@
 // What several parts ask of two numbers.
 ghost use mathlib.Core.Path.{_≡_};
-ghost use Prim.Native.Nat.{max};
+ghost use Prim.Native.Nat.{min, max};
 
 // The larger of two numbers.
 pub fn larger(a: usize, b: usize) -> usize
@@ -10,4 +10,14 @@ pub fn larger(a: usize, b: usize) -> usize
         return b;
     }
     a
+}
+
+// The smaller of two numbers.
+pub fn smaller(a: u16, b: u16) -> u16
+    ensures { λ r. ⌜ r ≡ min a b ⌝ }
+{
+    if a < b {
+        return a;
+    }
+    b
 }

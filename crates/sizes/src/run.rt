@@ -1,6 +1,7 @@
 // The run over a trace: header, room, and then the records, for all sizes at once.
 use crate::engine::Sums;
 use crate::engine::read;
+use crate::lists::LIST_ROOM;
 use crate::tallies::finish;
 use card::places::key_of;
 use terms::Refusal;
@@ -65,6 +66,8 @@ fn records(
     ensures { λ r. ⌜ (ranAnswer r ≡ answered n (readsFrom (length (now (trace .entry))) (now (trace .entry)) start))
         × TalliedBy n (readsFrom (length (now (trace .entry))) (now (trace .entry)) start) (now (counts .exit)) ⌝ }
 {
+    // A list on its way from one row to another; made once, because making it costs as much as a small read.
+    let mut scratch = [0u16; LIST_ROOM];
     let mut at = start;
     let mut reads: u64 = 0;
     let mut sums = Sums {
@@ -81,7 +84,8 @@ fn records(
                 length,
             } => {
                 let key = key_of(volume, block);
-                sums = read(blocks, stretches, counts, n, key, priority as usize, sums);
+                let p = priority as usize;
+                sums = read(blocks, stretches, counts, &mut scratch, n, key, p, sums);
                 reads += 1;
                 at += length;
             }

@@ -4,7 +4,8 @@ ghost use mathlib.Core.Path.{_≡_};
 ghost use Prim.Native.Nat.{ℕ, _+_, _*_, _^_, _<_, _≤_};
 ghost use lib.ListN.{length, getD};
 ghost use Rattle.sizes.specs.Moves.{Falling};
-ghost use Rattle.sizes.specs.TallySteps.{bumped, begun, Listed, Passed, Begins, ReadTallied, Summing, Finished, More, Small, Ordered, Written};
+ghost use Rattle.sizes.specs.Lists.{Holds};
+ghost use Rattle.sizes.specs.TallySteps.{bumped, begun, Passed, Begins, ReadTallied, Summing, Finished, More, Small, Ordered, Written};
 
 // One more in tally k of a size; a size past the largest has no tallies.
 fn bump(counts: &mut [u64], n: usize, k: usize, m: usize)
@@ -36,7 +37,7 @@ fn begin(counts: &mut [u64], n: usize, first: usize, p: usize)
 // The number of the first stretch, from one on, whose place is at most `most`; the zeros after the last stretch stop the search.
 fn within(list: &[u16], from: usize, most: usize) -> usize
     ensures place { λ r. ⌜ getD (now (list .entry)) (2 * r + 1) 0 ≤ most ⌝ }
-    ensures passed { λ r. ⌜ ((J : ℕ → ℕ) (n : ℕ) → Falling J → Listed (now (list .entry)) J n → Passed J n most from → Passed J n most r) ⌝ }
+    ensures passed { λ r. ⌜ ((J : ℕ → ℕ) (n : ℕ) → Falling J → Holds (now (list .entry)) J n → Passed J n most from → Passed J n most r) ⌝ }
 {
     let mut i = from;
     while i < list.len() / 2 {
@@ -52,7 +53,7 @@ fn within(list: &[u16], from: usize, most: usize) -> usize
 fn first_size(list: &[u16], i: usize, n: usize) -> usize
     requires { ⌜ n < 2 ^ 63 ⌝ }
     ensures some { λ r. ⌜ 1 ≤ r ⌝ }
-    ensures begins { λ r. ⌜ ((J : ℕ → ℕ) (most : ℕ) → Falling J → Listed (now (list .entry)) J n → getD (now (list .entry)) (2 * i + 1) 0 ≤ most → Passed J n most i → Begins J n most r) ⌝ }
+    ensures begins { λ r. ⌜ ((J : ℕ → ℕ) (most : ℕ) → Falling J → Holds (now (list .entry)) J n → getD (now (list .entry)) (2 * i + 1) 0 ≤ most → Passed J n most i → Begins J n most r) ⌝ }
 {
     if list.len() / 2 <= i {
         return n + 1;
@@ -68,7 +69,7 @@ fn first_size(list: &[u16], i: usize, n: usize) -> usize
 // so that a tally counts only where its part of that order begins.
 pub fn tally(counts: &mut [u64], list: &[u16], n: usize, p: usize)
     requires { ⌜ (1 ≤ p) × (6 * n ≤ length (now counts)) × ((x : ℕ) → getD (now counts) x 0 < 2 ^ 63) ⌝ }
-    ensures tallied { λ _. ⌜ ((J : ℕ → ℕ) → Falling J → Listed (now (list .entry)) J n → ReadTallied (now (counts .entry)) (now (counts .exit)) J n p) ⌝ }
+    ensures tallied { λ _. ⌜ ((J : ℕ → ℕ) → Falling J → Holds (now (list .entry)) J n → ReadTallied (now (counts .entry)) (now (counts .exit)) J n p) ⌝ }
     ensures small { λ _. ⌜ ((x : ℕ) → getD (now (counts .exit)) x 0 ≤ getD (now (counts .entry)) x 0 + 1) ⌝ }
     ensures kept { λ _. ⌜ ((x : ℕ) → 6 * n ≤ x → getD (now (counts .exit)) x 0 ≡ getD (now (counts .entry)) x 0) ⌝ }
 {

@@ -1,15 +1,16 @@
--- `card::places::place_of` meets its contract: each turn leaves what is left of the search. Assumes nothing.
-use mathlib.Core.Path.{_≡_}
+-- `card::places::place_of` meets its contract: the places before a turn's do not hold the block. Assumes nothing.
+use mathlib.Core.Path.{_≡_, refl}
 use Prim.Native.Nat.{_-_, _≤_}
 use native.Mathlib.Omega.{arith}
-use lib.ListN.{length, drop}
+use borrow.Author.Needs.{needs}
+use lib.ListN.{length, take}
 use Rattle.card.specs.Rule.{place}
-use Rattle.card.proofs.Searches.{lowerBy, lower-none, place-here, place-on, place-end}
+use Rattle.card.proofs.Searches.{fours, none-of-four}
 use Rattle.card.proofs.places.place_of.Statement.{statement}
 use Rattle.card.proofs.places.place_of.Tie as tie
 
 abbrev Inv-loop : tie.InvT-loop
-Inv-loop card key i₀ i = (i ≤ length card) × (place card key ≡ lowerBy i (place (drop i card) key))
+Inv-loop card key i₀ i = (i ≤ length card) × (place (take i card) key ≡ 0)
 
 abbrev μ-loop : tie.MeasureT-loop
 μ-loop card key i₀ i = length card - i
@@ -20,12 +21,29 @@ place-of-spec =
     (tie.spec
     Inv-loop
     μ-loop
-    (λ c. (omega arith, lower-none _))
+    (λ c. (omega arith, refl))
     (λ c. omega arith)
     (λ c. omega arith)
     (λ c. omega arith)
-    (λ c. search place-here)
+    (λ c. omega arith)
+    (λ c. search fours)
     (λ c. omega arith)
     (λ c. omega arith)
-    (λ c. (omega arith, search place-on))
-    (λ c. search place-end))
+    (λ c. omega arith)
+    (λ c. omega arith)
+    (λ c. search fours)
+    (λ c. omega arith)
+    (λ c. omega arith)
+    (λ c. omega arith)
+    (λ c. omega arith)
+    (λ c. search fours)
+    (λ c. omega arith)
+    (λ c. omega arith)
+    (λ c. omega arith)
+    (λ c. omega arith)
+    (λ c. search fours)
+    (λ c. omega arith)
+    (λ c. omega arith)
+    (λ c. (omega arith, search none-of-four))
+    (λ c κs. c .before .loop .inv)
+    (λ c. search needs))

@@ -6,60 +6,56 @@ use Rattle.card.specs.Rule.{afterRead}
 use Rattle.card.proofs.OutcomeCases.{place-in}
 use Rattle.sizes.proofs.NewTotals.{total-low}
 use Rattle.sizes.proofs.ReadLaws.{some-read, found, held-more, tallies-more, sums-more}
-use Rattle.sizes.proofs.Widths.{list-room, rows-fill}
+use Rattle.sizes.proofs.Widths.{listRoom, list-room, rows-fill}
+use Rattle.sizes.proofs.PassStart.{zeros-at}
 use Rattle.sizes.proofs.engine.read.Statement.{statement}
 use Rattle.sizes.proofs.engine.read.Tie as tie
 
-list-of-requires : tie.Need-list-of-requires
-list-of-requires c κs =
-    let start = c .before .before .before .before .before .before .before in
-    (omega (arith, c .before .place-of .ensures, place-in (start .args .blocks .now) (start .args .key)), start .pre .1, omega (arith, rows-fill (start .args .n), start .pre .3))
-
-tally-requires : tie.Need-tally-requires
-tally-requires c κs =
-    let start = c .before .before .before .before .before .before .before .before .before .before in
-    (omega (arith, c .before .before .before .before .before .before .at-least-one .ensures), omega (arith, start .pre .4), start .pre .6)
+load-requires : tie.Need-load-requires
+load-requires c κs =
+    let start = c .before .before .before .before .before .before .before .before .before .before .before in
+    (omega (arith, c .before .before .before .before .read .ensures .0, place-in (start .args .blocks .now) (start .args .key)), omega (arith, rows-fill (start .args .n), start .pre .3), list-room (start .args .n) (start .pre .1), λ x. zeros-at listRoom x)
 
 renew-all-requires : tie.Need-renew-all-requires
 renew-all-requires c κs =
-    let start = c .before .before .before .before .before .before .before .before .before .before .before .before .before .before .before in
-    (start .pre .0, start .pre .1, omega (arith, c .before .before .before .before .before .before .before .before .before .before .before .at-least-one .ensures), omega (arith, c .before .before .before .before .before .before .before .before .before .place-of .ensures, place-in (start .args .blocks .now) (start .args .key)), omega (arith, c .before .before .before .before .before .before .before .list-of .ensures .0, list-room (start .args .n) (start .pre .1)), omega (arith, rows-fill (start .args .n), start .pre .3))
+    let start = c .before .before .before .before .before .before .before .before .before .before .before .before .before .before .before .before .before .before .before .before .before in
+    (start .pre .0, start .pre .1, omega (arith, c .before .before .before .before .before .before .before .before .before .before .before .before .before .before .before .before .at-least-one .ensures), omega (arith, c .before .before .before .before .before .before .before .before .before .before .before .before .before .before .read .ensures .0, place-in (start .args .blocks .now) (start .args .key)), omega (arith, list-room (start .args .n) (start .pre .1)), omega (arith, rows-fill (start .args .n), start .pre .3), start .pre .5)
 
 summed-requires : tie.Need-summed-requires
 summed-requires c κs =
-    let start = c .before .before .before .before .before .before .before .before .before .before .before .before .before .before .before .before .before .before .before .before .before .before in
+    let start = c .before .before .before .before .before .before .before .before .before .before .before .before .before .before .before .before .before .before .before .before .before .before .before .before .before .before in
     let a = start .args in
-    let one = c .before .before .before .before .before .before .before .before .before .before .before .before .before .before .before .before .before .before .at-least-one .ensures in
-    let here = c .before .before .before .before .before .before .before .before .before .before .before .before .before .before .before .before .place-of .ensures in
-    let list = c .before .before .before .before .before .before .before .before .before .before .before .before .before .before .list-of .result in
-    let lists = c .before .before .before .before .before .before .before .before .before .before .before .before .before .before .list-of .ensures .1 in
-    let renewed = c .before .before .before .before .before .before .renew-all in
-    let (rs, held, sums) = start .pre .7 in
-    let (r, ek, ew) = some-read (a .key) (a .priority) (start .pre .5) in
+    let one = c .before .before .before .before .before .before .before .before .before .before .before .before .before .before .before .before .before .before .before .before .before .at-least-one .ensures in
+    let here = c .before .before .before .before .before .before .before .before .before .before .before .before .before .before .before .before .before .before .before .read .ensures .0 in
+    let list = c .before .before .before .before .before .before .before .before .before .before .before .before .before .before .load .last .1 .1 .1 .0 in
+    let lists = c .before .before .before .before .before .before .before .before .before .before .before .before .before .before .load .ensures in
+    let renewed = c .before .before .before .before .renew-all in
+    let (rs, held, sums) = start .pre .8 in
+    let (r, ek, ew) = some-read (a .key) (a .priority) (start .pre .6) in
     let f = found _ _ _ _ _ _ list here lists rs r ek (ew ∙ sym one) held in
     let more = sums-more _ _ _ _ _ _ list here lists rs r ek (ew ∙ sym one) held _ _ _ _ _ _ sums (renewed .ensures .1 .0 _ _ f) (renewed .ensures .1 .1 .0 _ _ f) in
     (more .0, omega (arith, renewed .ensures .1 .1 .1, rows-fill (a .n), start .pre .3, sums .now-is, total-low (a .n) rs))
 
 returns : tie.Need-returns
 returns c =
-    let start = c .before .before .before .before .before .before .before .before .before .before .before .before .before .before .before .before .before .before .before .before .before .before .before in
+    let start = c .before .before .before .before .before .before .before .before .before .before .before .before .before .before .before .before .before .before .before .before .before .before .before .before .before .before .before in
     let a = start .args in
-    let one = c .before .before .before .before .before .before .before .before .before .before .before .before .before .before .before .before .before .before .before .at-least-one .ensures in
-    let here = c .before .before .before .before .before .before .before .before .before .before .before .before .before .before .before .before .before .place-of .ensures in
-    let list = c .before .before .before .before .before .before .before .before .before .before .before .before .before .before .before .list-of .result in
-    let lists = c .before .before .before .before .before .before .before .before .before .before .before .before .before .before .before .list-of .ensures .1 in
-    let tallied = c .before .before .before .before .before .before .before .before .before .before .before .before .tally .ensures in
-    let renewed = c .before .before .before .before .before .before .before .renew-all .ensures in (
+    let one = c .before .before .before .before .before .before .before .before .before .before .before .before .before .before .before .before .before .before .before .before .before .before .at-least-one .ensures in
+    let was = c .before .before .before .before .before .before .before .before .before .before .before .before .before .before .before .before .before .before .before .before .read .ensures in
+    let list = c .before .before .before .before .before .before .before .before .before .before .before .before .before .before .before .load .last .1 .1 .1 .0 in
+    let lists = c .before .before .before .before .before .before .before .before .before .before .before .before .before .before .before .load .ensures in
+    let tallied = c .before .before .before .before .before .before .before .before .before .before .before .tally .ensures in
+    let renewed = c .before .before .before .before .before .renew-all .ensures in (
       (λ rs r ek ew held.
-          held-more _ _ _ _ _ _ list here lists rs r ek (ew ∙ sym one) held _ _
-          (c .before .before .before .read .ensures .1 ∙ ap (afterRead (a .blocks .now) (a .key)) (sym one))
-          (renewed .0 _ _ (found _ _ _ _ _ _ list here lists rs r ek (ew ∙ sym one) held))),
+          held-more _ _ _ _ _ _ list (was .0) lists rs r ek (ew ∙ sym one) held _ _
+          (was .2 ∙ ap (afterRead (a .blocks .now) (a .key)) (sym one))
+          (renewed .0 _ _ (found _ _ _ _ _ _ list (was .0) lists rs r ek (ew ∙ sym one) held))),
       (
-        (λ rs r ek ew held t. tallies-more _ _ _ _ _ _ list here lists rs r ek (ew ∙ sym one) held _ _ (tallied .0) t),
+        (λ rs r ek ew held t. tallies-more _ _ _ _ _ _ list (was .0) lists rs r ek (ew ∙ sym one) held _ _ (tallied .0) t),
         (
           (λ rs r ek ew held t.
-              let f = found _ _ _ _ _ _ list here lists rs r ek (ew ∙ sym one) held in
-              let more = sums-more _ _ _ _ _ _ list here lists rs r ek (ew ∙ sym one) held _ _ _ _ _ _ t (renewed .1 .0 _ _ f) (renewed .1 .1 .0 _ _ f) .1 in
+              let f = found _ _ _ _ _ _ list (was .0) lists rs r ek (ew ∙ sym one) held in
+              let more = sums-more _ _ _ _ _ _ list (was .0) lists rs r ek (ew ∙ sym one) held _ _ _ _ _ _ t (renewed .1 .0 _ _ f) (renewed .1 .1 .0 _ _ f) .1 in
               record { now-is = c .summed .ensures .0 ∙ more .now-is; most-is = c .summed .ensures .1 ∙ more .most-is; one-is = c .summed .ensures .2 ∙ more .one-is }),
           tallied .1 .0,
         ),
@@ -72,13 +68,14 @@ read-spec =
     (tie.spec
     (λ c κs. search needs)
     (λ c κs. search needs)
-    list-of-requires
     (λ c. search needs)
-    tally-requires
+    load-requires
+    (λ c. search needs)
+    (λ c κs. search needs)
     (λ c. search needs)
     renew-all-requires
-    (λ c κs. search needs)
     summed-requires
+    (λ c. search needs)
     (λ c. search needs)
     (λ c. search needs)
     (λ c. search needs)

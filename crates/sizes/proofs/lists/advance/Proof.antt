@@ -1,45 +1,26 @@
--- The cursor moves on where the next entry is the size itself.
+-- The cursor moves on where its next size is this one.
 use borrow.Author.Needs.{needs}
 use native.Mathlib.Omega.{arith}
-use lib.ListN.{getD, List·getD-eq-default}
-use mathlib.Core.Path.{_∙_}
-use Prim.Native.Nat.{_+_}
-use Rattle.sizes.proofs.PairLaws.{moved, stood, len-le}
-use Rattle.sizes.proofs.PairFacts.{in-list}
+use mathlib.Core.Path.{subst}
+use Prim.Native.Nat.{ℕ}
+use Rattle.sizes.specs.Lists.{At}
+use Rattle.sizes.proofs.PairLaws.{at-later, at-still}
 use Rattle.sizes.proofs.lists.advance.Statement.{statement}
 use Rattle.sizes.proofs.lists.advance.Tie as tie
 
 returns : tie.Need-returns
-returns c J n t good holds es hs a =
-    let s = c .before .before .before .before .before in
-    let i = s .args .cursor .passed in
-    let e = holds i (omega (arith, a .passed, len-le J t n (omega arith))) in
-    let hit = c .before .if2 .taken in
-    moved J n t (s .args .s) i (s .args .cursor .place) (getD (s .args .list .now) i 0) _ good es hs a e hit
-    (c .entry .ensures ∙ holds (i + 1) (omega (arith, in-list J n i (omega (arith, e, hit)))))
+returns c =
+    let at = c .before .before .before .before .args in
+    let r = c .next-stretch .result in
+    let hit = c .before .if1 .taken in
+    let on = c .next-stretch .ensures in
+    (omega (arith, on .0), λ J t good begins es hs a. subst (λ (z : ℕ). At J (at .n) z (r .passed) (r .place) (r .next)) hit (on .1 J t good begins (omega arith) (omega (arith, hit)) a))
 
 returns-2 : tie.Need-returns-2
-returns-2 c J n t good holds es hs a =
-    let s = c .before .before .before .before in
-    let i = s .args .cursor .passed in
-    stood J n t (s .args .s) i (s .args .cursor .place) (getD (s .args .list .now) i 0) good es hs a (holds i (omega (arith, a .passed, len-le J t n (omega arith)))) (c .if2 .left)
-
-returns-3 : tie.Need-returns-3
-returns-3 c J n t good holds es hs a =
-    let s = c .before .before in
-    let i = s .args .cursor .passed in
-    stood J n t (s .args .s) i (s .args .cursor .place) (getD (s .args .list .now) i 0) good es hs a (holds i (omega (arith, a .passed, len-le J t n (omega arith))))
-    (λ z. omega (arith, es, List·getD-eq-default (s .args .list .now) 0 {n = i} (omega arith)))
+returns-2 c =
+    let at = c .before .before .before .args in
+    let x = at .cursor in
+    (omega arith, λ J t good begins es hs a. at-still J (at .n) t (x .passed) (x .place) (x .next) (at .s) good (omega arith) a (omega arith) (omega (arith, c .if1 .left, at-later J (at .n) t (x .passed) (x .place) (x .next) (omega arith) a)))
 
 pub advance-spec : {M : Type 1} → statement M
-advance-spec =
-    tie.close
-    (tie.spec
-    (λ c. search needs)
-    (λ c. search needs)
-    (λ c. search needs)
-    (λ c. search needs)
-    (λ c κs. search needs)
-    returns
-    returns-2
-    returns-3)
+advance-spec = tie.close (tie.spec (λ c κs. search needs) returns returns-2)

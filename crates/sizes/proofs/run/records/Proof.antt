@@ -7,45 +7,48 @@ use lib.ListN.{length}
 use borrow.Author.Needs.{needs}
 use Rattle.sizes.proofs.PassRecords.{key-positive, read-in, place-in}
 use Rattle.sizes.proofs.PassStart.{zeros-length}
+use Rattle.sizes.proofs.Widths.{list-room}
 use Rattle.sizes.proofs.PassReads.{Sofar, sofar-none, turn, turn-refused, turns-end}
 use Rattle.sizes.proofs.run.records.Statement.{statement}
 use Rattle.sizes.proofs.run.records.Tie as tie
 
 abbrev Inv-loop : tie.InvT-loop
-Inv-loop trace start blocks₀ stretches₀ counts₀ n at₀ reads₀ sums₀ blocks stretches counts at reads sums =
+Inv-loop trace start blocks₀ stretches₀ counts₀ n scratch₀ at₀ reads₀ sums₀ blocks stretches counts scratch at reads sums =
     (at ≤ length trace)
     × (2 * reads ≤ at)
     × (length blocks ≡ length blocks₀)
     × (length stretches ≡ length stretches₀)
     × (length counts ≡ length counts₀)
+    × (length scratch ≡ length scratch₀)
     × Sofar n trace start blocks stretches counts at reads (sums .now) (sums .most) (sums .one)
 
 abbrev μ-loop : tie.MeasureT-loop
-μ-loop trace start blocks₀ stretches₀ counts₀ n at₀ reads₀ sums₀ blocks stretches counts at reads sums = length trace - at
+μ-loop trace start blocks₀ stretches₀ counts₀ n scratch₀ at₀ reads₀ sums₀ blocks stretches counts scratch at reads sums = length trace - at
 
 loop-holds : tie.Need-loop-holds Inv-loop μ-loop
 loop-holds c =
     let start = c .before .before .before .before in
-    (omega arith, omega arith, refl, refl, refl, sofar-none _ _ _ _ _ _ (start .pre .3) (start .pre .4) (start .pre .5))
+    (omega arith, omega arith, refl, refl, refl, refl, sofar-none _ _ _ _ _ _ (start .pre .3) (start .pre .4) (start .pre .5))
 
 read-requires : tie.Need-read-requires Inv-loop μ-loop
 read-requires c κs =
-    let start = c .before .before .before .before .before .before .before .before .before .before .before .before .before .before .before in
-    let l = c .before .before .before .before .before .before .before .before .before .before .loop in
-    let so = l .inv .5 in (
+    let start = c .before .before .before .before .before .before .before .before .before .before .before .before .before .before .before .before in
+    let l = c .before .before .before .before .before .before .before .before .before .before .before .loop in
+    let so = l .inv .6 in (
       start .pre .0,
       start .pre .1,
       l .inv .2 ∙ zeros-length _ _ (start .pre .3),
       l .inv .3 ∙ zeros-length _ _ (start .pre .4),
       l .inv .4 ∙ zeros-length _ _ (start .pre .5),
-      key-positive _ _ _ (c .before .before .before .key-of .ensures),
+      omega (arith, l .inv .5, list-room (start .args .n) (start .pre .1)),
+      key-positive _ _ _ (c .before .before .before .before .key-of .ensures),
       (λ x. omega (arith, so .low x)),
       (so .rs, so .held, so .totals),
     )
 
 -- the record has three bytes, and ends within the trace
-ends : (c : tie.After-slice-known6 Inv-loop μ-loop) → (3 ≤ c .before .before .before .before .before .before .before .before .before .before .before .before .volume .given .0 .1 .1 .1 .0) × (c .before .before .before .before .before .before .before .before .before .before .before .before .before .before .before .before .before .loop .at + c .before .before .before .before .before .before .before .before .before .before .before .before .volume .given .0 .1 .1 .1 .0 ≤ length (c .before .before .before .before .before .before .before .before .before .before .before .before .before .before .before .before .before .before .before .before .before .before .args .trace .now))
-ends c = let l = c .before .before .before .before .before .before .before .before .before .before .before .before .before .before .before .before .before .loop in read-in (c .before .before .before .before .before .before .before .before .before .before .before .before .before .before .before .before .before .before .before .before .before .before .args .trace .now) (l .at) _ (c .before .before .before .before .before .before .before .before .before .before .before .before .before .before .read-record .ensures) (l .inv .0) _ _ _ _ (c .before .before .before .before .before .before .before .before .before .before .before .before .volume .given .1)
+ends : (c : tie.After-scratch2 Inv-loop μ-loop) → (3 ≤ c .before .before .before .before .before .before .before .before .before .before .before .before .before .before .volume .given .0 .1 .1 .1 .0) × (c .before .before .before .before .before .before .before .before .before .before .before .before .before .before .before .before .before .before .before .loop .at + c .before .before .before .before .before .before .before .before .before .before .before .before .before .before .volume .given .0 .1 .1 .1 .0 ≤ length (c .before .before .before .before .before .before .before .before .before .before .before .before .before .before .before .before .before .before .before .before .before .before .before .before .args .trace .now))
+ends c = let l = c .before .before .before .before .before .before .before .before .before .before .before .before .before .before .before .before .before .before .before .loop in read-in (c .before .before .before .before .before .before .before .before .before .before .before .before .before .before .before .before .before .before .before .before .before .before .before .before .args .trace .now) (l .at) _ (c .before .before .before .before .before .before .before .before .before .before .before .before .before .before .before .before .read-record .ensures) (l .inv .0) _ _ _ _ (c .before .before .before .before .before .before .before .before .before .before .before .before .before .before .volume .given .1)
 
 add-reads : tie.Need-add-reads Inv-loop μ-loop
 add-reads c = omega arith
@@ -58,33 +61,34 @@ loop-less c = omega (arith, ends c)
 
 loop-again : tie.Need-loop-again Inv-loop μ-loop
 loop-again c =
-    let key = c .before .before .before .before .before .before .before .before .before .before in
+    let key = c .before .before .before .before .before .before .before .before .before .before .before .before in
     let loop = key .before .before .before .before .before .before .before .loop in
-    let after = c .before .before .before .before .before .before .read in
+    let after = c .before .before .before .before .before .before .before .read in
     let kept = after .ensures in (
       omega (arith, ends c),
       omega (arith, ends c),
       omega arith,
       omega arith,
       omega arith,
-      turn _ _ _ _ _ _ _ _ _ _ _ (loop .inv .5) _ (key .before .before .before .before .read-record .ensures) (key .before .before .before .before .before .before .loop-test .taken) _ _ _ _ (key .before .before .volume .given .1) _ (key .key-of .ensures)
+      omega arith,
+      turn _ _ _ _ _ _ _ _ _ _ _ (loop .inv .6) _ (key .before .before .before .before .read-record .ensures) (key .before .before .before .before .before .before .loop-test .taken) _ _ _ _ (key .before .before .volume .given .1) _ (key .key-of .ensures)
           (after .last .0) (after .last .1 .0) (after .last .1 .1 .0) _ _ _ (kept .0) (kept .1 .0) (kept .1 .1 .0) (kept .1 .1 .1),
     )
 
-add-t30 : tie.Need-add-t30 Inv-loop μ-loop
-add-t30 c =
+add-t33 : tie.Need-add-t33 Inv-loop μ-loop
+add-t33 c =
     let l = c .before .before .before .before .before .before .loop in
     omega (arith, place-in (c .before .before .before .before .before .before .before .before .before .before .before .args .trace .now) (l .at) _ (c .before .before .before .read-record .ensures) (l .inv .0) _ _ (c .before .why .given .1))
 
 returns : tie.Need-returns Inv-loop μ-loop
 returns c =
     let l = c .before .before .before .before .before .before .loop in
-    turn-refused _ _ _ _ _ _ _ _ _ _ _ (l .inv .5) _ (c .before .before .before .read-record .ensures) (c .before .before .before .before .before .loop-test .taken) _ _ (c .before .why .given .1)
+    turn-refused _ _ _ _ _ _ _ _ _ _ _ (l .inv .6) _ (c .before .before .before .read-record .ensures) (c .before .before .before .before .before .loop-test .taken) _ _ (c .before .why .given .1)
 
 returns-2 : tie.Need-returns-2 Inv-loop μ-loop
 returns-2 c =
     let l = c .before .loop in
-    turns-end _ _ _ _ _ _ _ _ _ _ _ (l .inv .5) (c .loop-test .left) (omega arith)
+    turns-end _ _ _ _ _ _ _ _ _ _ _ (l .inv .6) (c .loop-test .left) (omega arith)
 
 pub records-spec : {M : Type 1} → statement M
 records-spec =
@@ -99,13 +103,14 @@ records-spec =
     (λ c κs. search needs)
     (λ c. c .match .keys1)
     (λ c κs. search needs)
+    (λ c. search needs)
     read-requires
     add-reads
     add-at
     loop-less
     loop-again
     (λ c. c .match .keys2)
-    add-t30
+    add-t33
     (λ c. c .before .before .before .before .before .before .loop .inv .2)
     (λ c. c .before .before .before .before .before .before .loop .inv .3)
     (λ c. c .before .before .before .before .before .before .loop .inv .4)

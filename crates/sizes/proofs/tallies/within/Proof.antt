@@ -4,13 +4,14 @@ use native.Mathlib.Omega.{arith}
 use borrow.Author.Needs.{needs}
 use lib.ListN.{length, List·getD-eq-default}
 use Rattle.sizes.specs.Moves.{Falling}
-use Rattle.sizes.specs.TallySteps.{Listed, Passed}
+use Rattle.sizes.specs.Lists.{Holds}
+use Rattle.sizes.specs.TallySteps.{Passed}
 use Rattle.sizes.proofs.TallyLists.{passed-more}
 use Rattle.sizes.proofs.tallies.within.Statement.{statement}
 use Rattle.sizes.proofs.tallies.within.Tie as tie
 
 abbrev Inv-loop : tie.InvT-loop
-Inv-loop list from most i₀ i = (J : ℕ → ℕ) (n : ℕ) → Falling J → Listed list J n → Passed J n most from → Passed J n most i
+Inv-loop list from most i₀ i = (J : ℕ → ℕ) (n : ℕ) → Falling J → Holds list J n → Passed J n most from → Passed J n most i
 
 abbrev μ-loop : tie.MeasureT-loop
 μ-loop list from most i₀ i = length list / 2 - i
