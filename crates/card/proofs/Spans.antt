@@ -9,7 +9,8 @@ use borrow.Author.Tests.{eq-eqb, ne-eqb}
 use lib.ListN.{length, length-append}
 use Rattle.card.specs.Stretches.{starts, stretches}
 use Rattle.card.proofs.Tests.{by-lt, by-eq, tests, here-one}
-use Rattle.card.proofs.StretchBounds.{Falling, starts-here}
+use Rattle.card.specs.Falling.{Falling}
+use Rattle.card.proofs.StretchBounds.{starts-here}
 
 pub record Span : Type 0 where
   pub first : ℕ

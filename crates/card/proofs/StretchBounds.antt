@@ -9,6 +9,7 @@ use Rattle.terms.specs.Reads.{Read}
 use Rattle.card.specs.Rule.{place}
 use Rattle.card.specs.Run.{cardAfter}
 use Rattle.card.specs.Stretches.{placesOf, starts, stretches, half}
+use Rattle.card.specs.Falling.{Falling}
 use Rattle.card.specs.State.{apart}
 use Rattle.card.proofs.Tests.{by-eq, tests, here, here-one, some-here}
 use Rattle.card.proofs.OutcomeCases.{place-in}
@@ -19,11 +20,6 @@ use Rattle.card.proofs.Members.{sum-among, sum-ones, ones-sum}
 pub starts-here : (a b : ℕ) → starts a b ≤ here b
 starts-here a b =
     by-eq b 0 (λ e. simp tests (omega arith)) (λ e. by-eq b a (λ f. simp tests (omega arith)) (λ f. simp tests (omega arith)))
-
--- places within the sizes; a block that is present stays present in the next size, at the same place or nearer the top
-pub record Falling (f : ℕ → ℕ) : Type 0 where
-  pub fits : (n : ℕ) → f n ≤ n
-  pub falls : (n : ℕ) → 0 < f n → (0 < f (suc n)) × (f (suc n) ≤ f n)
 
 module _ (f : ℕ → ℕ) (fall : Falling f) where
   -- absent: no stretch so far. present: twice the stretches, and the places that are left above it

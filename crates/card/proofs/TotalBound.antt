@@ -13,7 +13,8 @@ use Rattle.card.specs.Stretches.{placesOf, stretches, blocksOf, sumOver,
 use Rattle.card.proofs.Tests.{by-eq, tests, here, here-one, here-some, some-here}
 use Rattle.card.proofs.Inclusion.{length-card}
 use Rattle.card.proofs.Members.{sum-among, sum-less, sum-ones}
-use Rattle.card.proofs.StretchBounds.{starts-here, Falling, places-fall, stretches-none, stretches-half}
+use Rattle.card.specs.Falling.{Falling}
+use Rattle.card.proofs.StretchBounds.{starts-here, places-fall, stretches-none, stretches-half}
 use Rattle.card.proofs.Blocks.{apart-blocks, some-blocks}
 
 -- a sum over 0 to n - 1

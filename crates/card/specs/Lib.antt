@@ -1,6 +1,7 @@
 pub mod Rule
 pub mod Run
 pub mod Stretches
+pub mod Falling
 pub mod State
 pub mod Ratio
 pub mod Answers

@@ -3,7 +3,8 @@ use mathlib.Core.Path.{_≡_, sym, ap, _∙_}
 use Prim.Native.Nat.{ℕ, _+_, _≤_, _<_, min}
 use native.Mathlib.Omega.{arith}
 use Rattle.card.proofs.Tests.{by-lt, tests}
-use Rattle.sizes.specs.Moves.{after, Falling, sourceOf, newOf}
+use Rattle.card.specs.Falling.{Falling}
+use Rattle.sizes.specs.Moves.{after, sourceOf, newOf}
 use Rattle.sizes.proofs.PairFacts.{falls}
 
 module _ (J : ℕ → ℕ) (j : ℕ) (L : ℕ → ℕ → ℕ) (n k m : ℕ) (kn : k ≤ n) (mn : m ≤ n) where

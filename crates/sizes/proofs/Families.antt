@@ -12,8 +12,9 @@ use Rattle.card.specs.Stretches.{placesOf}
 use Rattle.card.proofs.Tests.{by-lt, by-eq, tests}
 use Rattle.card.proofs.Moves.{place-getD}
 use Rattle.card.proofs.Inclusion.{card-apart, length-card}
-use Rattle.card.proofs.StretchBounds as bounds
-use Rattle.sizes.specs.Moves.{Falling, Family}
+use Rattle.card.proofs.StretchBounds.{places-fall}
+use Rattle.card.specs.Falling.{Falling}
+use Rattle.sizes.specs.Moves.{Family}
 use Rattle.sizes.specs.Rows.{placesAt}
 
 -- the key at an index of the largest card
@@ -24,9 +25,6 @@ keyAt rs n i = getD (cardAfter n rs) i 0
 abbrev pub family : List Read → ℕ → ℕ → ℕ → ℕ
 family rs n zero m = 0
 family rs n (suc i) m = placesAt rs n i m
-
-pub falling : (rs : List Read) (x : ℕ) → 0 < x → Falling (placesOf rs x)
-falling rs x z = let f = bounds.places-fall rs x z in record { fits = f .fits; falls = f .falls }
 
 falling-none : (f : ℕ → ℕ) → ((m : ℕ) → f m ≡ 0) → Falling f
 falling-none f h = record { fits = λ m. omega (arith, h m); falls = λ m g. absurd (omega (arith, h m)) }
@@ -52,7 +50,7 @@ module _ (rs : List Read) (n : ℕ) where
   family-good (suc i) =
       by-eq (keyAt rs n i) 0
       (λ e. falling-none (placesAt rs n i) (unplaced i e))
-      (λ e. let f = falling rs (keyAt rs n i) (omega arith) in record {
+      (λ e. let f = places-fall rs (keyAt rs n i) (omega arith) in record {
         fits = λ m. rw (placed i e m) (f .fits m);
         falls = λ m g. rw (placed i e m, placed i e (suc m)) (f .falls m (rw (placed i e m) at g));
       })

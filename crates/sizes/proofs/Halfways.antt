@@ -1,19 +1,16 @@
 -- Rows that are renewed one by one from both ends of the card.
-use mathlib.Core.Path.{_≡_, sym, ap, _∙_}
+use mathlib.Core.Path.{_≡_, ap, _∙_}
 use mathlib.Core.Logic.{_⊎_, _≢_, inl, inr, ⊎-elim}
 use mathlib.Core.List.{List}
 use Prim.Native.Nat.{ℕ, _+_, _-_, _*_, _≤_, _<_, max}
 use native.Mathlib.Omega.{arith}
-use lib.ListN.{length}
-use Rattle.card.specs.Stretches.{stretches}
 use Rattle.card.proofs.Tests.{by-eq, by-lt, tests}
-use Rattle.sizes.specs.Moves.{after, Family, sourceOf, newOf}
-use Rattle.sizes.specs.Rows.{pairs, Row}
-use Rattle.sizes.specs.Totals.{sumTo, mostTo}
+use Rattle.sizes.specs.Moves.{Family, sourceOf, newOf}
+use Rattle.sizes.specs.Totals.{mostTo}
 use Rattle.sizes.specs.Sweeps.{Kept, RowAt, RowsOf, Bound, comes, stands, movedOf, Halfway, AllCounted}
 use Rattle.sizes.specs.declared.rows.Changes.{Changes}
 use Rattle.sizes.specs.declared.sweeps.Read.{Read}
-use Rattle.sizes.proofs.RowLaws.{row-eq, row-kept, apart, new-other, source-near, source-lo}
+use Rattle.sizes.proofs.RowLaws.{row-kept, apart, source-near, source-lo}
 use Rattle.sizes.proofs.RowCounts.{stretches-none}
 use Rattle.sizes.proofs.Exchanges.{sum-last, most-over, most-under}
 

@@ -15,7 +15,8 @@ use Rattle.card.proofs.NextPlaces.{places-read, places-other}
 use Rattle.sizes.specs.Moves.{takenOut, putIn, after, own, sourceOf, newOf}
 use Rattle.sizes.specs.Rows.{placesAt}
 use Rattle.sizes.proofs.PairLaws.{after-absent}
-use Rattle.sizes.proofs.Families.{keyAt, family, falling, placed, unplaced, key-place}
+use Rattle.card.proofs.StretchBounds.{places-fall}
+use Rattle.sizes.proofs.Families.{keyAt, family, placed, unplaced, key-place}
 
 -- ---- where a block comes from
 
@@ -149,7 +150,7 @@ module _ (rs : List Read) (r : Read) (n : ℕ) where
         let there : putIn (wanted r) n (takenOut (readPlaces n) (placesOf rs y n)) ≡ suc i = sym (places-other rs r n y (omega arith) diff) ∙ at-n in
         let present : 1 ≤ placesOf rs y n = by-eq (placesOf rs y n) 0 (λ q. absurd (omega (arith, rw q at there, none-stays (readPlaces n) (wanted r) n (wanted-some r)))) (λ q. omega arith) in
         let apart : placesOf rs y n ≢ readPlaces n = λ q. diff (sym (key-here rs n y (placesOf rs y n - 1) (omega arith)) ∙ key-here rs n (blockRead r) (placesOf rs y n - 1) (omega arith)) in
-        let source = source-to (wanted r) (readPlaces n) n (wanted-some r) (falling rs (blockRead r) (key-some r) .fits n) (placesOf rs y n) (suc i) present (falling rs y (omega arith) .fits n) apart (omega arith) there .1 in
+        let source = source-to (wanted r) (readPlaces n) n (wanted-some r) (places-fall rs (blockRead r) (key-some r) .fits n) (placesOf rs y n) (suc i) present (places-fall rs y (omega arith) .fits n) apart (omega arith) there .1 in
         let fam : family rs n (sourceOf (wanted r) (readPlaces n) (suc i)) m ≡ placesOf rs y m = ap (λ (q : ℕ). family rs n q m) (sym source) ∙ family-at rs n y (z) present m in
         rw fam (sym (places-other rs r m y (omega arith) diff) ∙ ap (λ (w : ℕ). placesOf more w m) (sym e) ∙ sym (placed more n i (λ q. z (sym e ∙ q)) m))
 
@@ -165,7 +166,7 @@ module _ (rs : List Read) (r : Read) (n : ℕ) where
             by-eq (keyAt rs n l) 0
             (λ d. unplaced rs n l d m)
             (λ d. let (b, f) = key-place rs n l d in
-            let moved = source-from (wanted r) (readPlaces n) n (wanted-some r) (falling rs (blockRead r) (key-some r) .fits n) (suc l) (suc i) q (omega arith) (omega arith) other (omega arith) (omega arith) in
+            let moved = source-from (wanted r) (readPlaces n) n (wanted-some r) (places-fall rs (blockRead r) (key-some r) .fits n) (suc l) (suc i) q (omega arith) (omega arith) other (omega arith) (omega arith) in
             let diff : keyAt rs n l ≢ blockRead r = λ w. moved .0 (sym f ∙ ap (λ (v : ℕ). placesOf rs v n) w) in
             let here : placesOf more (keyAt rs n l) n ≡ suc i = places-other rs r n (keyAt rs n l) (omega arith) diff ∙ ap (λ (v : ℕ). putIn (wanted r) n (takenOut (readPlaces n) v)) f ∙ moved .1 in
             absurd (d (sym (key-here more n (keyAt rs n l) i here) ∙ e)))

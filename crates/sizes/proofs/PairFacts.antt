@@ -8,7 +8,8 @@ use native.Mathlib.Decide.{le-ind}
 use lib.ListN.{length, getD, length-append, List·getD-eq-default}
 use borrow.Author.Tests.{le-leb, lt-leb, eq-eqb, ne-eqb}
 use Rattle.card.specs.Stretches.{starts, stretches}
-use Rattle.sizes.specs.Moves.{Falling, own}
+use Rattle.card.specs.Falling.{Falling}
+use Rattle.sizes.specs.Moves.{own}
 use Rattle.sizes.specs.Rows.{pairs, rowLength}
 use Rattle.sizes.specs.Lists.{Holds, Ends}
 use Rattle.sizes.proofs.PairLaws.{level-pairs, start-s, lt-cases, eq-cases, pairs-cases, pairs-zero, prefix, room-le, start-at}

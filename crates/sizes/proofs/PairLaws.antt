@@ -12,7 +12,8 @@ use lib.Seq.{getD-append-add, getD-append-seam, getD-set-same, getD-set-other}
 use borrow.Author.Tests.{lt-ltb, le-ltb, eq-eqb, ne-eqb}
 use Rattle.card.specs.Stretches.{starts}
 use Rattle.card.proofs.Tests.{by-lt, by-eq}
-use Rattle.sizes.specs.Moves.{takenOut, putIn, after, Falling}
+use Rattle.card.specs.Falling.{Falling}
+use Rattle.sizes.specs.Moves.{takenOut, putIn, after}
 use Rattle.sizes.specs.Rows.{pairs}
 use Rattle.sizes.specs.Lists.{Holds, Begins, At, Level, Written, nextSize}
 

@@ -12,7 +12,8 @@ use Rattle.card.specs.Run.{blockRead, wanted}
 use Rattle.card.specs.Stretches.{placesOf, stretches, peakOfOne}
 use Rattle.card.proofs.Inclusion.{key-some}
 use Rattle.card.proofs.NextPlaces.{run-more}
-use Rattle.sizes.specs.Moves.{Falling, newOf}
+use Rattle.card.specs.Falling.{Falling}
+use Rattle.sizes.specs.Moves.{newOf}
 use Rattle.sizes.specs.Totals.{Totals, sumTo, mostTo}
 use Rattle.sizes.specs.Rows.{pairs, rowLength, Row, Held, placesAt}
 use Rattle.sizes.specs.Sweeps.{Found}
@@ -20,7 +21,8 @@ use Rattle.sizes.specs.Tallies.{Tallied}
 use Rattle.sizes.specs.Lists.{Holds}
 use Rattle.sizes.specs.TallySteps.{ReadTallied}
 use Rattle.sizes.proofs.PairLists.{pairs-same}
-use Rattle.sizes.proofs.Families.{family, falling, family-is}
+use Rattle.card.proofs.StretchBounds.{places-fall}
+use Rattle.sizes.proofs.Families.{family, family-is}
 use Rattle.sizes.proofs.NewPlaces.{family-at, new-places}
 use Rattle.sizes.proofs.NewTotals.{totals-more, old-low}
 use Rattle.sizes.proofs.CountLaws.{tallied-more}
@@ -69,7 +71,7 @@ module _ (n key p j : ℕ) (blocks area list : List ℕ) (here : j ≡ place blo
   J = placesOf rs (blockRead r)
 
   pub falls : Falling J
-  falls = falling rs (blockRead r) (key-some r)
+  falls = places-fall rs (blockRead r) (key-some r)
 
   pub there : j ≡ J n
   there = here ∙ ap (place blocks) (sym ek) ∙ place-there n rs r blocks area held

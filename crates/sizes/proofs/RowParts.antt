@@ -8,7 +8,7 @@ use lib.Seq.{getD-append-add, getD-take, getD-drop, length-take-le}
 use borrow.Rule.Slice.PartMut.{putMid, midOf, postOf}
 use mathlib.Core.Logic.{⊎-elim}
 use lib.ListN.{List·getD-eq-default}
-use Rattle.sizes.specs.Moves.{Falling}
+use Rattle.card.specs.Falling.{Falling}
 use Rattle.sizes.specs.Rows.{pairs, rowLength, Row}
 use Rattle.sizes.specs.Lists.{Holds, Ends}
 use Rattle.sizes.specs.Sweeps.{Kept}

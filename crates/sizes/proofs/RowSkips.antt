@@ -4,7 +4,8 @@ use mathlib.Core.Logic.{_⊎_, inl, inr, ⊎-elim}
 use Prim.Native.Nat.{ℕ, _-_, _≤_, _<_}
 use native.Mathlib.Omega.{arith}
 use lib.ListN.{length, getD}
-use Rattle.sizes.specs.Moves.{takenOut, putIn, after, Falling}
+use Rattle.card.specs.Falling.{Falling}
+use Rattle.sizes.specs.Moves.{takenOut, putIn, after}
 use Rattle.sizes.specs.Rows.{pairs}
 use Rattle.sizes.proofs.PairLaws.{lt-cases, taken-cases, taken-le, put-low, put-high, hold, moves, pairs-zero}
 use Rattle.sizes.proofs.PairFacts.{two, falls, entries, in-list}

@@ -9,7 +9,8 @@ use lib.Dec.{eqb}
 use lib.ListN.{length, getD}
 use Rattle.card.specs.Stretches.{stretches}
 use Rattle.card.proofs.Tests.{by-lt, by-eq, tests}
-use Rattle.sizes.specs.Moves.{takenOut, putIn, after, Falling}
+use Rattle.card.specs.Falling.{Falling}
+use Rattle.sizes.specs.Moves.{takenOut, putIn, after}
 use Rattle.sizes.specs.Rows.{pairs, Row}
 use Rattle.sizes.proofs.PairLaws.{taken-cases, taken-le, put-low, put-high, put-out}
 use Rattle.sizes.proofs.PairFacts.{two, pairs-one, falls}

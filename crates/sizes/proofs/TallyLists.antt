@@ -8,7 +8,7 @@ use lib.Seq.{getD-append-add}
 use Rattle.card.specs.Stretches.{stretches}
 use Rattle.card.proofs.Tests.{by-lt, by-eq, tests}
 use Rattle.sizes.specs.Rows.{pairs}
-use Rattle.sizes.specs.Moves.{Falling}
+use Rattle.card.specs.Falling.{Falling}
 use Rattle.sizes.specs.Lists.{Holds}
 use Rattle.sizes.specs.TallySteps.{Passed, Begins}
 

@@ -9,7 +9,7 @@ use lib.ListN.{length, getD}
 use Rattle.card.specs.Rule.{outcome}
 use Rattle.card.proofs.Tests.{by-lt, by-eq, tests, bit}
 use Rattle.card.proofs.OutcomeCases.{by-outcome}
-use Rattle.sizes.specs.Moves.{Falling}
+use Rattle.card.specs.Falling.{Falling}
 use Rattle.sizes.specs.Tallies.{upTo}
 use Rattle.sizes.specs.TallySteps.{bumped, begun, Begins, ReadTallied}
 use Rattle.sizes.proofs.TallyBumps.{length-bumped, bumped-other, bumped-small, bumped-kept, upTo-same, upTo-other}

@@ -1,9 +1,10 @@
 -- Where blocks stand after a read, at every size at once: what the crate's own functions promise each other.
-use Prim.Native.Nat.{ℕ, suc, _+_, _-_, _≤_, _<_}
+use Prim.Native.Nat.{ℕ, _+_, _-_}
 use mathlib.Core.Path.{_≡_}
 use mathlib.Core.Logic.{_⊎_}
 use mathlib.Core.Bool.{cond}
 use lib.Dec.{ltb, leb, eqb}
+use Rattle.card.specs.Falling.{Falling}
 
 -- the place of another block once the block at place j, 0 where it is absent, has been taken out
 abbrev pub takenOut : ℕ → ℕ → ℕ
@@ -20,11 +21,6 @@ after J p L m = putIn p m (takenOut (J m) (L m))
 -- those of the block that was read
 unfoldable pub own : ℕ → ℕ → ℕ
 own p m = cond (leb p m) p 0
-
--- a block's places: within the sizes, and once present, present at each larger size and no lower
-pub record Falling (places : ℕ → ℕ) : Type 0 where
-  pub fits : (m : ℕ) → places m ≤ m
-  pub falls : (m : ℕ) → 0 < places m → (0 < places (suc m)) × (places (suc m) ≤ places m)
 
 -- the old place, in the largest card, of what stands at place k after the read of a block at j
 unfoldable pub sourceOf : (p j k : ℕ) → ℕ

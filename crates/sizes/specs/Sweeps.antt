@@ -3,11 +3,12 @@ use mathlib.Core.Path.{_≡_}
 use mathlib.Core.Bool.{cond}
 use mathlib.Core.Logic.{_⊎_}
 use mathlib.Core.List.{List}
-use Prim.Native.Nat.{ℕ, _+_, _-_, _*_, _^_, _≤_, _<_, max}
+use Prim.Native.Nat.{ℕ, _+_, _-_, _*_, _≤_, _<_, max}
 use lib.Dec.{eqb, ltb}
 use lib.ListN.{getD, length}
 use Rattle.card.specs.Stretches.{stretches}
-use Rattle.sizes.specs.Moves.{after, Falling, Family, sourceOf, newOf}
+use Rattle.card.specs.Falling.{Falling}
+use Rattle.sizes.specs.Moves.{after, Family, sourceOf, newOf}
 use Rattle.sizes.specs.Rows.{pairs, rowLength, Row}
 use Rattle.sizes.specs.Totals.{sumTo, mostTo}
 use Rattle.sizes.specs.Lists.{Begins, Holds}

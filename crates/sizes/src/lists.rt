@@ -5,7 +5,8 @@ ghost use mathlib.Core.List.{[], _∷_};
 ghost use Prim.Native.Nat.{ℕ, suc, _+_, _^_, _<_, _≤_};
 ghost use lib.ListN.{length, getD};
 ghost use Rattle.sizes.specs.Rows.{pairs, rowLength};
-ghost use Rattle.sizes.specs.Moves.{takenOut, putIn, after, Falling};
+ghost use Rattle.card.specs.Falling.{Falling};
+ghost use Rattle.sizes.specs.Moves.{takenOut, putIn, after};
 ghost use Rattle.sizes.specs.Lists.{Holds, Begins, Ends, At, Written, nextSize};
 
 // Room for the longest list of a block and two zeros.

@@ -3,7 +3,7 @@ use crate::numbers::larger;
 ghost use mathlib.Core.Path.{_≡_};
 ghost use Prim.Native.Nat.{ℕ, _+_, _*_, _^_, _<_, _≤_};
 ghost use lib.ListN.{length, getD};
-ghost use Rattle.sizes.specs.Moves.{Falling};
+ghost use Rattle.card.specs.Falling.{Falling};
 ghost use Rattle.sizes.specs.Lists.{Holds};
 ghost use Rattle.sizes.specs.TallySteps.{bumped, begun, Passed, Begins, ReadTallied, Summing, Finished, More, Small, Ordered, Written};
 

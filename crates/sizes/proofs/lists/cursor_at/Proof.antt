@@ -3,7 +3,7 @@ use borrow.Author.Needs.{needs}
 use native.Mathlib.Omega.{arith}
 use Prim.Native.Nat.{ℕ, _+_, _-_, _≤_}
 use lib.ListN.{length}
-use Rattle.sizes.specs.Moves.{Falling}
+use Rattle.card.specs.Falling.{Falling}
 use Rattle.sizes.specs.Lists.{Begins, At}
 use Rattle.sizes.proofs.PairLaws.{at-first, at-still, at-end}
 use Rattle.sizes.proofs.lists.cursor_at.Statement.{statement}

@@ -5,7 +5,8 @@ use mathlib.Core.Path.{_≡_, refl, sym, _∙_, subst}
 use Prim.Native.Nat.{ℕ, _+_, _-_, _≤_}
 use native.Mathlib.Numerals.{add-one}
 use lib.ListN.{length, getD}
-use Rattle.sizes.specs.Moves.{after, Falling}
+use Rattle.card.specs.Falling.{Falling}
+use Rattle.sizes.specs.Moves.{after}
 use Rattle.sizes.specs.Rows.{pairs}
 use Rattle.sizes.specs.Lists.{Begins, Written}
 use Rattle.sizes.proofs.PairLaws.{State, state-first, state-next, at-first, at-later, rule-after, holds-all, len-le}

@@ -1,9 +1,9 @@
 -- Only a list with a place from the upper of the two on is touched.
 use borrow.Author.Needs.{needs}
 use native.Mathlib.Omega.{arith}
-use mathlib.Core.Path.{_≡_, refl, sym}
+use mathlib.Core.Path.{sym}
 use mathlib.Core.Logic.{inl, inr, ⊎-elim}
-use Prim.Native.Nat.{ℕ, _+_, _-_, _*_}
+use Prim.Native.Nat.{_+_, _-_, _*_}
 use lib.ListN.{getD}
 use Rattle.sizes.proofs.RowLaws.{source-above}
 use Rattle.sizes.proofs.RowSkips.{keep-above}

@@ -3,12 +3,10 @@ use borrow.Author.Needs.{needs}
 use native.Mathlib.Omega.{arith}
 use mathlib.Core.Path.{_≡_, sym, ap, _∙_}
 use mathlib.Core.Logic.{⊎-elim}
-use mathlib.Core.List.{List}
 use Prim.Native.Nat.{ℕ, _+_, _-_, _*_, _≤_}
 use lib.ListN.{getD}
 use Rattle.sizes.specs.Moves.{after}
 use Rattle.sizes.specs.Rows.{pairs}
-use Rattle.sizes.proofs.PairFacts.{in-list}
 use Rattle.sizes.proofs.RowLaws.{after-none, source-below}
 use Rattle.sizes.proofs.RowSkips.{first-bound, keep-below}
 use Rattle.sizes.proofs.Halfways.{halfway-down}

@@ -1,11 +1,10 @@
 -- What comes from the place above: nothing, one stretch, or a list that is merged.
 use borrow.Author.Needs.{needs}
 use native.Mathlib.Omega.{arith}
-use mathlib.Core.Path.{_≡_, refl, sym, ap, _∙_, subst}
+use mathlib.Core.Path.{refl, sym, ap, _∙_, subst}
 use mathlib.Core.Logic.{inl, inr, ⊎-elim}
 use mathlib.Core.List.{List}
-use Prim.Native.Nat.{ℕ, _+_, _-_, _*_}
-use lib.ListN.{length}
+use Prim.Native.Nat.{ℕ, _-_, _*_}
 use Rattle.sizes.specs.Rows.{pairs, Row}
 use Rattle.sizes.specs.Sweeps.{Kept, Carried}
 use Rattle.sizes.proofs.RowLaws.{source-down}

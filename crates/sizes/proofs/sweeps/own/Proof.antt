@@ -4,11 +4,9 @@ use native.Mathlib.Omega.{arith}
 use mathlib.Core.Path.{_≡_, refl, sym, ap, _∙_}
 use mathlib.Core.Logic.{⊎-elim}
 use mathlib.Core.List.{List}
-use Prim.Native.Nat.{ℕ, _+_, _-_, _*_, _≤_, _<_, min}
+use Prim.Native.Nat.{ℕ, _+_, _-_, _≤_, _<_, min}
 use lib.ListN.{getD}
 use Rattle.sizes.specs.Moves.{own, after}
-use Rattle.sizes.specs.Rows.{pairs}
-use Rattle.sizes.specs.Sweeps.{Halfway}
 use Rattle.sizes.proofs.PairFacts.{pairs-own}
 use Rattle.sizes.proofs.RowCounts.{stretches-none}
 use Rattle.sizes.proofs.RowLaws.{after-none, pairs-none, source-up}

@@ -4,7 +4,6 @@ use native.Mathlib.Omega.{arith}
 use mathlib.Core.Path.{_≡_, sym, ap, _∙_, subst}
 use mathlib.Core.List.{List}
 use Prim.Native.Nat.{ℕ, _+_, _-_, _*_}
-use lib.ListN.{length}
 use Rattle.sizes.specs.Rows.{pairs, Row}
 use Rattle.sizes.specs.Sweeps.{Kept, Carried}
 use Rattle.sizes.proofs.RowSkips.{first-bound}
