@@ -77,4 +77,5 @@ def main(batches):
     return 1 if failed or not passed else 0
 
 
-sys.exit(main(4))
+if __name__ == "__main__":
+    sys.exit(main(4))

@@ -1,0 +1,49 @@
+-- Laws of the lines of a sheet: each is put in part by part.
+use mathlib.Core.Path.{_≡_, ap}
+use mathlib.Core.List.{List}
+use Prim.Native.Nat.{ℕ, suc, _+_, _*_}
+use native.Mathlib.Omega.{arith}
+use lib.ListN.{getD}
+use Rattle.sheet_text.specs.Decimal.{decimal}
+use Rattle.sheet_text.specs.Sheet.{accesses, stretches, block, refused, at, newline, told, heading, cell, sixOf, lineOf, linesOf, refusedLine}
+use Rattle.sheet_text.specs.Writing.{Wrote}
+use Rattle.sheet_text.proofs.Puts.{put-none, put-then}
+
+pub heading-put : {t t₁ t₂ t₃ t₄ t₅ t₆ t₇ : List ℕ} {e₁ e₂ e₃ e₄ e₅ e₆ e₇ : ℕ} (reads total one : ℕ)
+    → Wrote t t₁ 0 e₁ accesses → Wrote t₁ t₂ e₁ e₂ (told reads) → Wrote t₂ t₃ e₂ e₃ stretches → Wrote t₃ t₄ e₃ e₄ (told total)
+    → Wrote t₄ t₅ e₄ e₅ block → Wrote t₅ t₆ e₅ e₆ (told one) → Wrote t₆ t₇ e₆ e₇ newline → Wrote t t₇ 0 e₇ (heading reads total one)
+unfolding heading
+heading-put reads total one a b c d e f g = put-then (put-then (put-then (put-then (put-then (put-then a b) c) d) e) f) g
+
+pub refused-put : {t t₁ t₂ t₃ t₄ t₅ : List ℕ} {e₁ e₂ e₃ e₄ e₅ : ℕ} (number place : ℕ)
+    → Wrote t t₁ 0 e₁ refused → Wrote t₁ t₂ e₁ e₂ (told number) → Wrote t₂ t₃ e₂ e₃ at → Wrote t₃ t₄ e₃ e₄ (told place)
+    → Wrote t₄ t₅ e₄ e₅ newline → Wrote t t₅ 0 e₅ (refusedLine number place)
+unfolding refusedLine
+refused-put number place a b c d e = put-then (put-then (put-then (put-then a b) c) d) e
+
+module _ (counts : List ℕ) (m : ℕ) where
+  -- the code says 6 * m for the first of the six
+  first-cell : getD counts (6 * m) 0 ≡ cell counts m 0
+  first-cell = ap (λ (i : ℕ). getD counts i 0) (omega arith)
+
+  pub six-put : {t t₁ t₂ t₃ t₄ t₅ t₆ : List ℕ} {from e₁ e₂ e₃ e₄ e₅ e₆ : ℕ}
+      → Wrote t t₁ from e₁ (told (getD counts (6 * m) 0)) → Wrote t₁ t₂ e₁ e₂ (told (cell counts m 1)) → Wrote t₂ t₃ e₂ e₃ (told (cell counts m 2))
+      → Wrote t₃ t₄ e₃ e₄ (told (cell counts m 3)) → Wrote t₄ t₅ e₄ e₅ (told (cell counts m 4)) → Wrote t₅ t₆ e₅ e₆ (told (cell counts m 5))
+      → Wrote t t₆ from e₆ (sixOf counts m)
+  unfolding sixOf
+  six-put a b c d e f = put-then (put-then (put-then (put-then (put-then (rw first-cell at a) b) c) d) e) f
+
+  pub line-put : {t t₁ t₂ t₃ t₄ : List ℕ} {from e₁ e₂ e₃ e₄ : ℕ}
+      → Wrote t t₁ from e₁ (decimal (m + 1)) → Wrote t₁ t₂ e₁ e₂ (told (cell counts m 4 + cell counts m 5)) → Wrote t₂ t₃ e₂ e₃ (sixOf counts m)
+      → Wrote t₃ t₄ e₃ e₄ newline → Wrote t t₄ from e₄ (lineOf counts m)
+  unfolding lineOf
+  line-put a b c d = put-then (put-then (put-then a b) c) d
+
+  pub lines-put : {t t₁ t₂ : List ℕ} {from e₁ e₂ : ℕ}
+      → Wrote t t₁ from e₁ (linesOf counts m) → Wrote t₁ t₂ e₁ e₂ (lineOf counts m) → Wrote t t₂ from e₂ (linesOf counts (suc m))
+  unfolding linesOf
+  lines-put a b = put-then a b
+
+pub no-lines : (counts : List ℕ) {t : List ℕ} {from : ℕ} → Wrote t t from from (linesOf counts 0)
+unfolding linesOf
+no-lines counts = put-none

@@ -1,0 +1,4 @@
+pub mod Decimal
+pub mod Sheet
+pub mod Desk
+pub mod Writing

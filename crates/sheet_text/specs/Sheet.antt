@@ -1,0 +1,73 @@
+-- The sheet as bytes, from what a run answers and the counts that it leaves.
+use Prim.Native.Nat.{ℕ, zero, suc, _+_, _*_}
+use mathlib.Core.List.{List, [], _∷_, _++_}
+use lib.ListN.{length, getD, take, drop}
+use Rattle.trace.specs.Reading.{Reading, Given, Refused, Header, headerAt}
+use Rattle.sizes.specs.Outcome as outcome
+use Rattle.sheet_text.specs.Decimal.{decimal}
+
+-- the words of the sheet, in ASCII: "accesses", " stretches", " block", "refused", " at", and the end of a line
+abbrev pub accesses : List ℕ
+accesses = 97 ∷ 99 ∷ 99 ∷ 101 ∷ 115 ∷ 115 ∷ 101 ∷ 115 ∷ []
+
+abbrev pub stretches : List ℕ
+stretches = 32 ∷ 115 ∷ 116 ∷ 114 ∷ 101 ∷ 116 ∷ 99 ∷ 104 ∷ 101 ∷ 115 ∷ []
+
+abbrev pub block : List ℕ
+block = 32 ∷ 98 ∷ 108 ∷ 111 ∷ 99 ∷ 107 ∷ []
+
+abbrev pub refused : List ℕ
+refused = 114 ∷ 101 ∷ 102 ∷ 117 ∷ 115 ∷ 101 ∷ 100 ∷ []
+
+abbrev pub at : List ℕ
+at = 32 ∷ 97 ∷ 116 ∷ []
+
+abbrev pub newline : List ℕ
+newline = 10 ∷ []
+
+-- a number after a single space
+unfoldable pub told : ℕ → List ℕ
+told n = 32 ∷ decimal n
+
+-- the first line: the reads and the two peaks
+unfoldable pub heading : (reads total one : ℕ) → List ℕ
+heading reads total one = accesses ++ told reads ++ stretches ++ told total ++ block ++ told one ++ newline
+
+-- the count of an outcome for the size after so many sizes
+abbrev pub cell : List ℕ → (m o : ℕ) → ℕ
+cell counts m o = getD counts (6 * m + o) 0
+
+-- the six counts of the size after m sizes
+unfoldable pub sixOf : List ℕ → ℕ → List ℕ
+sixOf counts m = told (cell counts m 0) ++ told (cell counts m 1) ++ told (cell counts m 2) ++ told (cell counts m 3) ++ told (cell counts m 4) ++ told (cell counts m 5)
+
+-- the line of the size after m sizes: size, misses, and the six counts
+unfoldable pub lineOf : List ℕ → ℕ → List ℕ
+lineOf counts m = decimal (m + 1) ++ told (cell counts m 4 + cell counts m 5) ++ sixOf counts m ++ newline
+
+-- the lines of sizes 1 to n
+unfoldable pub linesOf : List ℕ → ℕ → List ℕ
+linesOf counts zero = []
+linesOf counts (suc m) = linesOf counts m ++ lineOf counts m
+
+-- the one line of a refusal
+unfoldable pub refusedLine : (number place : ℕ) → List ℕ
+refusedLine number place = refused ++ told number ++ at ++ told place ++ newline
+
+-- the largest size that a trace names
+abbrev pub sizeIn : Reading Header → ℕ
+sizeIn (Given h at₁) = h .size
+sizeIn (Refused number place) = 0
+
+-- the sheet of a run: its answer and its counts
+abbrev pub sheetBy : (n : ℕ) (counts : List ℕ) → outcome.Answer → List ℕ
+sheetBy n counts (outcome.Done reads total one) = heading reads total one ++ linesOf counts n
+sheetBy n counts (outcome.Refused number place) = refusedLine number place
+
+-- the sheet of a trace, in areas that are lent
+unfoldable pub sheetOf : List ℕ → outcome.Areas → List ℕ
+sheetOf bytes areas = sheetBy (sizeIn (headerAt bytes 0)) (outcome.runOf bytes areas .areas .counts) (outcome.runOf bytes areas .answer)
+
+-- a text area with bytes at its front, as far as they fit
+abbrev pub shown : (bytes text : List ℕ) → List ℕ
+shown bytes text = take (length text) bytes ++ drop (length bytes) text

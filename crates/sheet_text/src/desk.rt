@@ -1,0 +1,34 @@
+// The sheet that the program prints.
+use crate::sheet::sheet;
+use crate::text::put_refused;
+use terms::Refusal;
+use terms::refusal_number;
+ghost use mathlib.Core.Path.{_≡_};
+ghost use Prim.Native.Nat.{_≤_};
+ghost use lib.ListN.{length};
+ghost use Rattle.sizes.specs.Answers.{areasOf};
+ghost use Rattle.sheet_text.specs.Desk.{deskSheetOf, areasAfter};
+ghost use Rattle.sheet_text.specs.Sheet.{shown};
+
+pub const LARGEST_INPUT: usize = 16384;
+
+// The sheet of an input, where that is not too long.
+pub fn desk_sheet(
+    trace: &[u8],
+    blocks: &mut [u64],
+    stretches: &mut [u16],
+    counts: &mut [u64],
+    text: &mut [u8],
+) -> usize
+    ensures text { λ r. ⌜ (r ≡ length (deskSheetOf (now (trace .entry)) (areasOf (now (blocks .entry)) (now (stretches .entry)) (now (counts .entry)))))
+        × (now (text .exit) ≡ shown (deskSheetOf (now (trace .entry)) (areasOf (now (blocks .entry)) (now (stretches .entry)) (now (counts .entry)))) (now (text .entry))) ⌝ }
+    ensures short { λ r. ⌜ r ≤ 32768 ⌝ }
+    ensures areas { λ r. ⌜ (now (blocks .exit) ≡ areasAfter (now (trace .entry)) (areasOf (now (blocks .entry)) (now (stretches .entry)) (now (counts .entry))) .blocks)
+        × (now (stretches .exit) ≡ areasAfter (now (trace .entry)) (areasOf (now (blocks .entry)) (now (stretches .entry)) (now (counts .entry))) .stretches)
+        × (now (counts .exit) ≡ areasAfter (now (trace .entry)) (areasOf (now (blocks .entry)) (now (stretches .entry)) (now (counts .entry))) .counts) ⌝ }
+{
+    if LARGEST_INPUT < trace.len() {
+        return put_refused(text, refusal_number(Refusal::Large), LARGEST_INPUT);
+    }
+    sheet(trace, blocks, stretches, counts, text)
+}

@@ -1,0 +1,4 @@
+// The sheet as text.
+pub mod desk;
+pub mod sheet;
+mod text;

@@ -1,0 +1,107 @@
+// The sheet of a trace: the reads and the peaks, then a line for each size, or one line that says why there is none.
+use crate::text::put_number;
+use crate::text::put_refused;
+use crate::text::put_told;
+use crate::text::put_words;
+use sizes::run::Ran;
+use sizes::run::run;
+use terms::refusal_number;
+use trace::header::Header;
+use trace::header::read_header;
+ghost use mathlib.Core.Path.{_≡_};
+ghost use Prim.Native.Nat.{ℕ, _+_, _*_, _^_, _<_, _≤_};
+ghost use lib.ListN.{length};
+ghost use Rattle.trace.specs.Reading.{headerAt};
+ghost use Rattle.sizes.specs.Outcome.{runOf};
+ghost use Rattle.sizes.specs.Answers.{areasOf};
+ghost use Rattle.sheet_text.specs.Sheet.{cell, heading, sixOf, lineOf, linesOf, sizeIn, sheetOf, shown};
+ghost use Rattle.sheet_text.specs.Writing.{Wrote};
+
+// The first line.
+fn put_heading(text: &mut [u8], reads: u64, total: u64, one: u64) -> usize
+    ensures { λ r. ⌜ Wrote (now (text .entry)) (now (text .exit)) 0 r (heading reads total one) × (r ≤ 128) ⌝ }
+{
+    let mut at = put_words(text, 0, b"accesses");
+    at = put_told(text, at, reads);
+    at = put_words(text, at, b" stretches");
+    at = put_told(text, at, total);
+    at = put_words(text, at, b" block");
+    at = put_told(text, at, one);
+    put_words(text, at, b"\n")
+}
+
+// The six counts of the size after m sizes.
+fn put_counts(text: &mut [u8], from: usize, counts: &[u64], m: usize) -> usize
+    requires { ⌜ (from < 2 ^ 41) × (6 * m + 6 ≤ length (now counts)) ⌝ }
+    ensures { λ r. ⌜ Wrote (now (text .entry)) (now (text .exit)) from r (sixOf (now (counts .entry)) m) × (r ≤ from + 126) ⌝ }
+{
+    let mut at = put_told(text, from, counts[6 * m]);
+    at = put_told(text, at, counts[6 * m + 1]);
+    at = put_told(text, at, counts[6 * m + 2]);
+    at = put_told(text, at, counts[6 * m + 3]);
+    at = put_told(text, at, counts[6 * m + 4]);
+    put_told(text, at, counts[6 * m + 5])
+}
+
+// The line of the size after m sizes.
+fn put_line(text: &mut [u8], from: usize, counts: &[u64], m: usize) -> usize
+    requires { ⌜ (from < 2 ^ 40) × (m < 2 ^ 32) × (6 * m + 6 ≤ length (now counts)) × (cell (now counts) m 4 + cell (now counts) m 5 < 2 ^ 64) ⌝ }
+    ensures { λ r. ⌜ Wrote (now (text .entry)) (now (text .exit)) from r (lineOf (now (counts .entry)) m) × (r ≤ from + 256) ⌝ }
+{
+    let mut at = put_number(text, from, (m + 1) as u64);
+    at = put_told(text, at, counts[6 * m + 4] + counts[6 * m + 5]);
+    at = put_counts(text, at, counts, m);
+    put_words(text, at, b"\n")
+}
+
+// The lines of sizes 1 to n.
+fn put_lines(text: &mut [u8], from: usize, counts: &[u64], n: usize) -> usize
+    requires { ⌜ (from < 2 ^ 20) × (n < 2 ^ 16) × (6 * n ≤ length (now counts)) × ((m : ℕ) → m < n → cell (now counts) m 4 + cell (now counts) m 5 < 2 ^ 64) ⌝ }
+    ensures { λ r. ⌜ Wrote (now (text .entry)) (now (text .exit)) from r (linesOf (now (counts .entry)) n) × (r ≤ from + n * 256) ⌝ }
+{
+    let mut at = from;
+    let mut m = 0;
+    while m < n {
+        at = put_line(text, at, counts, m);
+        m += 1;
+    }
+    at
+}
+
+// The largest size that a trace names, 0 where its header is refused.
+fn size_in(trace: &[u8]) -> usize
+    ensures { λ r. ⌜ r ≡ sizeIn (headerAt (now (trace .entry)) 0) ⌝ }
+{
+    match read_header(trace) {
+        Header::Accepted {
+            edition: _,
+            size,
+            length: _,
+        } => size as usize,
+        Header::Refused(_, _) => 0,
+    }
+}
+
+// Runs a trace and puts its sheet into the text, as far as that fits; answers how many bytes the whole sheet has.
+pub fn sheet(
+    trace: &[u8],
+    blocks: &mut [u64],
+    stretches: &mut [u16],
+    counts: &mut [u64],
+    text: &mut [u8],
+) -> usize
+    ensures text { λ r. ⌜ (r ≡ length (sheetOf (now (trace .entry)) (areasOf (now (blocks .entry)) (now (stretches .entry)) (now (counts .entry)))))
+        × (now (text .exit) ≡ shown (sheetOf (now (trace .entry)) (areasOf (now (blocks .entry)) (now (stretches .entry)) (now (counts .entry)))) (now (text .entry))) ⌝ }
+    ensures short { λ r. ⌜ r ≤ 32768 ⌝ }
+    ensures areas { λ r. ⌜ (now (blocks .exit) ≡ runOf (now (trace .entry)) (areasOf (now (blocks .entry)) (now (stretches .entry)) (now (counts .entry))) .areas .blocks)
+        × (now (stretches .exit) ≡ runOf (now (trace .entry)) (areasOf (now (blocks .entry)) (now (stretches .entry)) (now (counts .entry))) .areas .stretches)
+        × (now (counts .exit) ≡ runOf (now (trace .entry)) (areasOf (now (blocks .entry)) (now (stretches .entry)) (now (counts .entry))) .areas .counts) ⌝ }
+{
+    match run(trace, blocks, stretches, counts) {
+        Ran::Done { reads, total, one } => {
+            let at = put_heading(text, reads, total, one);
+            put_lines(text, at, counts, size_in(trace))
+        }
+        Ran::Refused(why, place) => put_refused(text, refusal_number(why), place),
+    }
+}
