@@ -1,7 +1,6 @@
 """Builds the C programs with the kit's clang, and counts the instructions that an x86-64 program executes."""
 import collections
 import pathlib
-import platform
 import re
 import shutil
 import subprocess
@@ -10,36 +9,28 @@ import tempfile
 
 HERE = pathlib.Path(__file__).resolve().parent
 sys.path.append(str(HERE.parent / 'tests'))
+import c_tools  # noqa: E402
 import kit  # noqa: E402
 
-MACHINE = platform.machine()
-TOOLS = kit.kit() / 'on' / MACHINE / 'toolchain' / 'bin'
-LIBRARIES = kit.kit() / 'toolchain' / 'lib'
-EMULATOR = TOOLS / 'qemu-x86_64'
-FLAGS = ['--target=x86_64-linux-gnu', '-O3', '-fPIE', '-Wall', '-Wextra', '-Werror']
+EMULATOR = c_tools.TOOLS / 'qemu-x86_64'
 
 
 def built(name, source, *options):
     """A program from one C file, linked with the C library that the proved program runs with."""
     folder = kit.ROOT / 'target' / 'bench'
     folder.mkdir(parents=True, exist_ok=True)
-    unit, program = folder / (name + '.o'), folder / name
-    subprocess.run([TOOLS / 'clang', *FLAGS, *options, '-c', HERE / source, '-o', unit], check=True)
-    start = [LIBRARIES / part for part in ('Scrt1.o', 'crti.o', 'crtbeginS.o')]
-    rest = [LIBRARIES / part for part in ('libc.so.6', 'libc_nonshared.a', 'libgcc.a', 'crtendS.o', 'crtn.o')]
-    linker = ['-pie', '-dynamic-linker', LIBRARIES / 'ld-linux-x86-64.so.2']
-    subprocess.run([TOOLS / 'ld.lld', *linker, *start, unit, *rest, '-o', program], check=True)
-    return program
+    unit = c_tools.compiled(HERE / source, folder / (name + '.o'), '-O3', *options)
+    return c_tools.linked(folder / name, unit)
 
 
 def loaded(program):
     """The same loader and C library on every machine, so that all programs meet the same memmove."""
-    return [LIBRARIES / 'ld-linux-x86-64.so.2', '--library-path', LIBRARIES, program]
+    return [c_tools.LOADER, '--library-path', c_tools.LIBRARIES, program]
 
 
 def counter():
     """How instructions are counted here: the function, or None where there is no way."""
-    if MACHINE == 'x86_64':
+    if c_tools.MACHINE == 'x86_64':
         return count_by_callgrind if shutil.which('valgrind') else None
     return count_by_emulator if EMULATOR.exists() else None
 

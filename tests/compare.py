@@ -1,7 +1,19 @@
-"""Compares lines that were worked out here with what a test program of crates/ is held to."""
+"""Compares what the tests have with what they want: values one by one, or lines with a crate's stored output."""
 import pathlib
 
 CRATES = pathlib.Path(__file__).resolve().parent.parent / 'crates'
+
+
+class Tally:
+    """Counts what is equal, and shows what is not."""
+    passed = failed = 0
+
+    def equal(self, what, have, want):
+        if have == want:
+            self.passed += 1
+            return
+        self.failed += 1
+        print('%s\nwant %.300s\nhave %.300s' % (what, repr(want), repr(have)))
 
 
 def report(worked, crate):

@@ -13,7 +13,7 @@ def kit():
 
 
 def command(program):
-    """What starts target/bin/PROGRAM on this machine."""
+    """What starts target/bin/PROGRAM, or the program at a full path, on this machine."""
     machine = platform.machine()
     path = str(ROOT / 'target' / 'bin' / program)
     if machine == 'x86_64':

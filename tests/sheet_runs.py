@@ -10,6 +10,7 @@ import sys
 import tempfile
 
 import card_rule
+import compare
 import kit
 import sheet_rule
 import sizes_runs as runs
@@ -19,17 +20,6 @@ TOOL = str(kit.ROOT / 'tools' / 'trace')
 SCRIPT = str(kit.ROOT / 'sheet')
 WORKED = bytes.fromhex('0103010a01010b02010c03010a03010b03010d02010c04010d01')
 WORKED_SHEET = 'accesses 8 stretches 3 block 2\n1 7 0 0 0 1 2 5\n2 5 1 0 0 2 3 2\n3 4 0 1 2 1 4 0\n'
-
-
-class Tally:
-    passed = failed = 0
-
-    def equal(self, what, have, want):
-        if have == want:
-            self.passed += 1
-            return
-        self.failed += 1
-        print('%s\nwant %.300s\nhave %.300s' % (what, repr(want), repr(have)))
 
 
 def stated_cases():
@@ -116,7 +106,7 @@ def example_cases(tally):
 
 
 def main():
-    tally = Tally()
+    tally = compare.Tally()
     for data, want in stated_cases():
         tally.equal('input %s' % data[:40].hex(), kit.output('sheet', data), want)
         tally.equal('the rule on %s' % data[:40].hex(), sheet_rule.sheet(data), want)

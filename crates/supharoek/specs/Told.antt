@@ -1,0 +1,55 @@
+-- What the calls from other languages tell: the refusal's number, 0 where there is none, and the values that go into the caller's numbers.
+use Prim.Native.Nat.{ℕ}
+use mathlib.Core.Bool.{cond}
+use mathlib.Core.List.{List, [], _∷_, _++_}
+use lib.Dec.{leb}
+use lib.ListN.{length, take, drop}
+use Rattle.terms.specs.declared.Refusal.the-variants.{Room}
+use Rattle.terms.specs.Refusals.{numberOf}
+use Rattle.terms.specs.Reads.{Read}
+use Rattle.trace.specs.Reading as reading
+use Rattle.trace.specs.Writing as writing
+use Rattle.card.specs.State as state
+use Rattle.sizes.specs.Outcome as outcome
+
+pub record Told : Type 0 where
+  pub number : ℕ
+  pub values : List ℕ
+
+abbrev pub tells : (number : ℕ) (values : List ℕ) → Told
+tells number values = record { number = number; values = values }
+
+-- a header: its edition, its size and its length; or the place of the refusal
+abbrev pub headerTold : reading.Reading reading.Header → Told
+headerTold (reading.Given h end) = tells 0 (h .edition ∷ h .size ∷ end ∷ [])
+headerTold (reading.Refused number place) = tells number (place ∷ [])
+
+-- a record: volume, block, priority and its length; or the place
+abbrev pub recordTold : reading.Reading Read → Told
+recordTold (reading.Given r end) = tells 0 (r .volume ∷ r .block ∷ r .priority ∷ end ∷ [])
+recordTold (reading.Refused number place) = tells number (place ∷ [])
+
+-- a header or a record written: its length
+abbrev pub writingTold : writing.Writing → Told
+writingTold (writing.Length n) = tells 0 (n ∷ [])
+writingTold (writing.Refused number) = tells number []
+
+-- a run: the reads and the two peaks; or the place
+abbrev pub runTold : outcome.Answer → Told
+runTold (outcome.Done reads total one) = tells 0 (reads ∷ total ∷ one ∷ [])
+runTold (outcome.Refused number place) = tells number (place ∷ [])
+
+-- a step: the outcome
+abbrev pub stepTold : state.Answer → Told
+stepTold (state.Outcome o) = tells 0 (o ∷ [])
+stepTold (state.Refused number) = tells number []
+
+-- a step's places are lent: fewer than those of a state are refused, and what lies past them is kept
+abbrev pub placesLent : ℕ
+placesLent = 127
+
+unfoldable pub stepCall : (size : ℕ) (places : List ℕ) (v b p : ℕ) → Told
+stepCall size places v b p = cond (leb placesLent (length places)) (stepTold (state.stepOf size (take placesLent places) v b p .answer)) (tells (numberOf Room) [])
+
+unfoldable pub placesAfter : (size : ℕ) (places : List ℕ) (v b p : ℕ) → List ℕ
+placesAfter size places v b p = cond (leb placesLent (length places)) (state.stepOf size (take placesLent places) v b p .places ++ drop placesLent places) places

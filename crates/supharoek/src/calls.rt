@@ -1,0 +1,160 @@
+// The calls.
+use crate::told::tell;
+use crate::told::tell_one;
+use sizes::run::Ran;
+use terms::refusal_number;
+use trace::Written;
+use trace::header::Header;
+use trace::record::Record;
+ghost use mathlib.Core.Path.{_≡_};
+ghost use lib.ListN.{length};
+ghost use Rattle.terms.specs.Reads.{readOf};
+ghost use Rattle.trace.specs.Reading.{headerAt, headerOf, recordAt};
+ghost use Rattle.trace.specs.Spelling.{spellings, headerValues, readValues};
+ghost use Rattle.trace.specs.Answers.{writtenAnswer};
+ghost use Rattle.trace.specs.Writing.{headerWriting, recordWriting, bufferAfter};
+ghost use Rattle.sizes.specs.Outcome.{runOf};
+ghost use Rattle.sizes.specs.Answers.{areasOf};
+ghost use Rattle.sheet_text.specs.Sheet.{sheetOf, shown};
+ghost use Rattle.supharoek.specs.Told.{headerTold, recordTold, writingTold, runTold};
+
+// Reads a header: edition, size, length; or the place of the refusal.
+#[no_mangle]
+pub extern "C" fn supharoek_read_header(trace: &[u8], out: &mut [u64]) -> u32
+    ensures { λ r. ⌜ (r ≡ headerTold (headerAt (now (trace .entry)) 0) .number)
+        × (now (out .exit) ≡ shown (headerTold (headerAt (now (trace .entry)) 0) .values) (now (out .entry))) ⌝ }
+{
+    match trace::header::read_header(trace) {
+        Header::Accepted {
+            edition,
+            size,
+            length,
+        } => {
+            let values = [edition, size, length as u64];
+            tell(out, &values);
+            0
+        }
+        Header::Refused(why, place) => {
+            tell_one(out, place as u64);
+            refusal_number(why)
+        }
+    }
+}
+
+// Reads a record from the start of a part of a trace: volume, block, priority, length; or the place of the refusal.
+#[no_mangle]
+pub extern "C" fn supharoek_read_record(part: &[u8], out: &mut [u64]) -> u32
+    ensures { λ r. ⌜ (r ≡ recordTold (recordAt (now (part .entry)) 0) .number)
+        × (now (out .exit) ≡ shown (recordTold (recordAt (now (part .entry)) 0) .values) (now (out .entry))) ⌝ }
+{
+    match trace::record::read_record(part) {
+        Record::Read {
+            volume,
+            block,
+            priority,
+            length,
+        } => {
+            let values = [volume, block, priority, length as u64];
+            tell(out, &values);
+            0
+        }
+        Record::Refused(why, place) => {
+            tell_one(out, place as u64);
+            refusal_number(why)
+        }
+    }
+}
+
+// What a writer answered: the length, or nothing.
+fn tell_written(out: &mut [u64], written: Written) -> u32
+    ensures { λ r. ⌜ (r ≡ writingTold (writtenAnswer written) .number) × (now (out .exit) ≡ shown (writingTold (writtenAnswer written) .values) (now (out .entry))) ⌝ }
+{
+    match written {
+        Written::Length(n) => {
+            tell_one(out, n as u64);
+            0
+        }
+        Written::Refused(why) => refusal_number(why),
+    }
+}
+
+// Writes a header into a buffer from an offset on: its length.
+#[no_mangle]
+pub extern "C" fn supharoek_write_header(
+    buffer: &mut [u8],
+    at: usize,
+    edition: u64,
+    size: u64,
+    out: &mut [u64],
+) -> u32
+    ensures told { λ r. ⌜ (r ≡ writingTold (headerWriting (headerOf edition size) (length (now (buffer .entry))) at) .number)
+        × (now (out .exit) ≡ shown (writingTold (headerWriting (headerOf edition size) (length (now (buffer .entry))) at) .values) (now (out .entry))) ⌝ }
+    ensures buffer { λ r. ⌜ now (buffer .exit) ≡ bufferAfter (headerWriting (headerOf edition size) (length (now (buffer .entry))) at) (now (buffer .entry)) at (spellings (headerValues (headerOf edition size))) ⌝ }
+{
+    let written = trace::header::write_header(buffer, at, edition, size);
+    tell_written(out, written)
+}
+
+// Writes a record likewise.
+#[no_mangle]
+pub extern "C" fn supharoek_write_record(
+    buffer: &mut [u8],
+    at: usize,
+    volume: u64,
+    block: u32,
+    priority: u64,
+    out: &mut [u64],
+) -> u32
+    ensures told { λ r. ⌜ (r ≡ writingTold (recordWriting (readOf volume block priority) (length (now (buffer .entry))) at) .number)
+        × (now (out .exit) ≡ shown (writingTold (recordWriting (readOf volume block priority) (length (now (buffer .entry))) at) .values) (now (out .entry))) ⌝ }
+    ensures buffer { λ r. ⌜ now (buffer .exit) ≡ bufferAfter (recordWriting (readOf volume block priority) (length (now (buffer .entry))) at) (now (buffer .entry)) at (spellings (readValues (readOf volume block priority))) ⌝ }
+{
+    let written = trace::record::write_record(buffer, at, volume, block, priority);
+    tell_written(out, written)
+}
+
+// Runs a trace for all sizes: the reads and the two peaks; or the place of the refusal.
+#[no_mangle]
+pub extern "C" fn supharoek_run(
+    trace: &[u8],
+    blocks: &mut [u64],
+    stretches: &mut [u16],
+    counts: &mut [u64],
+    out: &mut [u64],
+) -> u32
+    ensures told { λ r. ⌜ (r ≡ runTold (runOf (now (trace .entry)) (areasOf (now (blocks .entry)) (now (stretches .entry)) (now (counts .entry))) .answer) .number)
+        × (now (out .exit) ≡ shown (runTold (runOf (now (trace .entry)) (areasOf (now (blocks .entry)) (now (stretches .entry)) (now (counts .entry))) .answer) .values) (now (out .entry))) ⌝ }
+    ensures areas { λ r. ⌜ (now (blocks .exit) ≡ runOf (now (trace .entry)) (areasOf (now (blocks .entry)) (now (stretches .entry)) (now (counts .entry))) .areas .blocks)
+        × (now (stretches .exit) ≡ runOf (now (trace .entry)) (areasOf (now (blocks .entry)) (now (stretches .entry)) (now (counts .entry))) .areas .stretches)
+        × (now (counts .exit) ≡ runOf (now (trace .entry)) (areasOf (now (blocks .entry)) (now (stretches .entry)) (now (counts .entry))) .areas .counts) ⌝ }
+{
+    match sizes::run::run(trace, blocks, stretches, counts) {
+        Ran::Done { reads, total, one } => {
+            let values = [reads, total, one];
+            tell(out, &values);
+            0
+        }
+        Ran::Refused(why, place) => {
+            tell_one(out, place as u64);
+            refusal_number(why)
+        }
+    }
+}
+
+// Runs a trace and puts its sheet into a text, as far as it fits: the length of the whole sheet.
+#[no_mangle]
+pub extern "C" fn supharoek_sheet(
+    trace: &[u8],
+    blocks: &mut [u64],
+    stretches: &mut [u16],
+    counts: &mut [u64],
+    text: &mut [u8],
+) -> usize
+    ensures text { λ r. ⌜ (r ≡ length (sheetOf (now (trace .entry)) (areasOf (now (blocks .entry)) (now (stretches .entry)) (now (counts .entry)))))
+        × (now (text .exit) ≡ shown (sheetOf (now (trace .entry)) (areasOf (now (blocks .entry)) (now (stretches .entry)) (now (counts .entry)))) (now (text .entry))) ⌝ }
+    ensures areas { λ r. ⌜ (now (blocks .exit) ≡ runOf (now (trace .entry)) (areasOf (now (blocks .entry)) (now (stretches .entry)) (now (counts .entry))) .areas .blocks)
+        × (now (stretches .exit) ≡ runOf (now (trace .entry)) (areasOf (now (blocks .entry)) (now (stretches .entry)) (now (counts .entry))) .areas .stretches)
+        × (now (counts .exit) ≡ runOf (now (trace .entry)) (areasOf (now (blocks .entry)) (now (stretches .entry)) (now (counts .entry))) .areas .counts) ⌝ }
+{
+    sheet_text::sheet::sheet(trace, blocks, stretches, counts, text)
+}

@@ -1,0 +1,29 @@
+/* The card rule a second time: each size is a card of its own, searched and shifted. */
+#ifndef RULE_H
+#define RULE_H
+
+#include <stddef.h>
+#include <stdint.h>
+
+#include "supharoek.h"
+
+enum { KINDS = 6 };
+
+/* What a place holds for a block: never 0. */
+uint64_t key_of(uint64_t volume, uint64_t block);
+
+/* A read on a card of a size: its outcome, and the card after it. */
+uint64_t read_on(uint64_t *card, size_t size, uint64_t key, uint64_t priority);
+
+/* Cards of sizes 1 to n with the counts of their outcomes, and the peaks of their stretches. */
+struct cards {
+    size_t size;
+    uint64_t places[SUPHAROEK_LARGEST + 1][SUPHAROEK_LARGEST];
+    uint64_t counts[SUPHAROEK_COUNTS(SUPHAROEK_LARGEST)];
+    uint64_t reads, total_peak, one_peak;
+};
+
+void begin(struct cards *cards, size_t size);
+void read_on_all(struct cards *cards, uint64_t key, uint64_t priority);
+
+#endif

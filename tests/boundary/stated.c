@@ -1,0 +1,56 @@
+/* Sheets that the description of the product tells in so many words, and refusals at places worked out by hand. */
+#include "areas.h"
+#include "checks.h"
+#include "supharoek.h"
+#include "tally.h"
+
+struct stated {
+    const char *bytes;
+    size_t length;
+    const char *sheet;
+};
+
+static const struct stated sheets[] = {
+    {"\x01\x03\x01\x0a\x01\x01\x0b\x02\x01\x0c\x03\x01\x0a\x03\x01\x0b\x03\x01\x0d\x02\x01\x0c\x04\x01\x0d\x01", 26,
+     "accesses 8 stretches 3 block 2\n1 7 0 0 0 1 2 5\n2 5 1 0 0 2 3 2\n3 4 0 1 2 1 4 0\n"},
+    {"\x01\x01", 2, "accesses 0 stretches 0 block 0\n1 0 0 0 0 0 0 0\n"},
+    {"\x01\x03\x01\x0a\x03\x01\x0b\x03", 8,
+     "accesses 2 stretches 1 block 1\n1 2 0 0 0 0 0 2\n2 2 0 0 0 0 0 2\n3 2 0 0 0 0 2 0\n"},
+    {"\x01\x01\x01\x07\x01\x02\x07\x01", 8, "accesses 2 stretches 1 block 1\n1 2 0 0 0 0 2 0\n"},
+    {"", 0, "refused 1 at 0\n"},
+    {"\x80\x00", 2, "refused 2 at 0\n"},
+    {"\x02\x05", 2, "refused 3 at 0\n"},
+    {"\x01\x00", 2, "refused 4 at 1\n"},
+    {"\x01\x80\x01", 3, "refused 4 at 1\n"},
+    {"\x01\x03\x80\x80\x04", 5, "refused 5 at 2\n"},
+    {"\x01\x03\x01\x0a", 4, "refused 1 at 4\n"},
+    {"\x01\x03\x01\x0a\x00", 5, "refused 6 at 4\n"},
+    {"\x01\x03\x01\x0a\x80\x80\x01", 7, "refused 6 at 4\n"},
+    {"\x01\x03\x01\x0a\x01\x01\xff\xff\xff\xff\x10\x01", 12, "refused 2 at 6\n"},
+};
+
+static size_t length_of(const char *sheet) {
+    size_t length = 0;
+    while (sheet[length])
+        length++;
+    return length;
+}
+
+static void check_stated(const struct stated *stated, uint64_t which) {
+    static uint64_t blocks[SUPHAROEK_BLOCKS(SUPHAROEK_LARGEST)], counts[SUPHAROEK_COUNTS(SUPHAROEK_LARGEST)];
+    static uint16_t stretches[SUPHAROEK_STRETCHES(SUPHAROEK_LARGEST)];
+    struct area text = lend(1, SUPHAROEK_TEXT);
+    size_t length = length_of(stated->sheet);
+    size_t answer = supharoek_sheet((const uint8_t *)stated->bytes, stated->length, blocks,
+                                    sizeof blocks / sizeof *blocks, stretches, sizeof stretches / sizeof *stretches,
+                                    counts, sizeof counts / sizeof *counts, text.at, text.length);
+    check(answer == length, "the length of a stated sheet", which);
+    check(begins_with(text, stated->sheet, length), "a stated sheet", which);
+    take_back(text);
+    end_case();
+}
+
+void check_stated_sheets(void) {
+    for (size_t i = 0; i < sizeof sheets / sizeof *sheets; i++)
+        check_stated(&sheets[i], i);
+}
