@@ -13,6 +13,7 @@ pub mod Inclusion
 pub mod Outcomes
 pub mod NextPlaces
 pub mod Members
+pub mod Keys
 pub mod StretchBounds
 pub mod Blocks
 pub mod Totals
