@@ -66,7 +66,7 @@ fn records(
     ensures { λ r. ⌜ (ranAnswer r ≡ answered n (readsFrom (length (now (trace .entry))) (now (trace .entry)) start))
         × TalliedBy n (readsFrom (length (now (trace .entry))) (now (trace .entry)) start) (now (counts .exit)) ⌝ }
 {
-    // A list on its way from one row to another; made once, because making it costs as much as a small read.
+    // A list on its way from one row to another; made once, so that it is not set to zero for each read.
     let mut scratch = [0u16; LIST_ROOM];
     let mut at = start;
     let mut reads: u64 = 0;
