@@ -2,6 +2,7 @@
 use crate::places::key_of;
 use crate::places::read;
 use crate::state::is_state;
+use terms::LARGEST_SIZE;
 use terms::Refusal;
 ghost use mathlib.Core.Path.{_≡_};
 ghost use mathlib.Core.List.{_++_};
@@ -14,7 +15,7 @@ ghost use Rattle.card.specs.Answers.{steppedAnswer};
 // A size, and the places from the top: those after the size are empty.
 pub struct Card {
     pub size: usize,
-    pub places: [u64; 127],
+    pub places: [u64; LARGEST_SIZE],
 }
 
 pub enum Answer {
@@ -36,7 +37,7 @@ fn read_first(places: &mut [u64], m: usize, key: u64, priority: usize) -> u32
     read(&mut places[..m], key, priority).outcome
 }
 
-fn read_front(places: &mut [u64; 127], m: usize, key: u64, priority: usize) -> u32
+fn read_front(places: &mut [u64; LARGEST_SIZE], m: usize, key: u64, priority: usize) -> u32
     requires { ⌜ m ≤ length (now places) ⌝ }
     ensures { λ r. ⌜ (r ≡ outcomeOn (take m (now (places .entry))) key (max 1 priority))
         × (now (places .exit) ≡ afterRead (take m (now (places .entry))) key (max 1 priority) ++ drop m (now (places .entry))) ⌝ }

@@ -1,5 +1,6 @@
 // Lists of stretches: for each its first size and its place, and zeros after the last.
 use crate::numbers::smaller;
+use terms::LARGEST_SIZE;
 ghost use mathlib.Core.Path.{_≡_};
 ghost use mathlib.Core.List.{[], _∷_};
 ghost use Prim.Native.Nat.{ℕ, suc, _+_, _^_, _<_, _≤_};
@@ -10,7 +11,7 @@ ghost use Rattle.sizes.specs.Moves.{takenOut, putIn, after};
 ghost use Rattle.sizes.specs.Lists.{Holds, Begins, Ends, At, Written, nextSize};
 
 // Room for the longest list of a block and two zeros.
-pub const LIST_ROOM: usize = 130;
+pub const LIST_ROOM: usize = LARGEST_SIZE + 3;
 
 // A cursor into a list of stretches: the entries passed, the place now in force, and the first size of the next stretch, past every size where there is none.
 pub struct Cursor {

@@ -6,6 +6,7 @@ use lib.Dec.{leb}
 use lib.ListN.{length, take, drop}
 use Rattle.terms.specs.declared.Refusal.the-variants.{Room}
 use Rattle.terms.specs.Refusals.{numberOf}
+use Rattle.terms.specs.Ranges.{size}
 use Rattle.terms.specs.Reads.{Read}
 use Rattle.trace.specs.Reading as reading
 use Rattle.trace.specs.Writing as writing
@@ -46,7 +47,7 @@ stepTold (state.Refused number) = tells number []
 
 -- a step's places are lent: fewer than those of a state are refused, and what lies past them is kept
 abbrev pub placesLent : ℕ
-placesLent = 127
+placesLent = size .largest
 
 unfoldable pub stepCall : (size : ℕ) (places : List ℕ) (v b p : ℕ) → Told
 stepCall size places v b p = cond (leb placesLent (length places)) (stepTold (state.stepOf size (take placesLent places) v b p .answer)) (tells (numberOf Room) [])

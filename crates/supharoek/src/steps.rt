@@ -3,6 +3,7 @@ use crate::told::tell_one;
 use card::ratio::MissRatio;
 use card::step::Answer;
 use card::step::Card;
+use terms::LARGEST_SIZE;
 use terms::Refusal;
 use terms::refusal_number;
 ghost use mathlib.Core.Path.{_≡_};
@@ -14,9 +15,6 @@ ghost use Rattle.card.specs.Answers.{answerOf};
 ghost use Rattle.sheet_text.specs.Sheet.{shown};
 ghost use Rattle.supharoek.specs.Told.{placesLent, stepTold, stepCall, placesAfter};
 ghost use Rattle.supharoek.specs.Ratios.{ratioNumber, ratioAfter};
-
-// The places of a state.
-const PLACES: usize = 127;
 
 // Values go over the first places, and what lies past them is kept.
 fn write_places(places: &mut [u64], values: &[u64])
@@ -31,12 +29,12 @@ fn write_places(places: &mut [u64], values: &[u64])
 }
 
 // The first places, as those of a state.
-fn first_places(places: &[u64]) -> [u64; PLACES]
+fn first_places(places: &[u64]) -> [u64; LARGEST_SIZE]
     requires { ⌜ placesLent ≤ length (now places) ⌝ }
     ensures { λ r. ⌜ r ≡ take placesLent (now (places .entry)) ⌝ }
 {
-    let mut first = [0u64; PLACES];
-    write_places(&mut first, &places[..PLACES]);
+    let mut first = [0u64; LARGEST_SIZE];
+    write_places(&mut first, &places[..LARGEST_SIZE]);
     first
 }
 
@@ -53,7 +51,7 @@ fn tell_step(out: &mut [u64], answer: Answer) -> u32
     }
 }
 
-// One read on a state whose places are lent: the outcome. Fewer than 127 places are refused as too little room, and
+// One read on a state whose places are lent: the outcome. Fewer places than a state has are refused as too little room, and
 // what lies past them is kept.
 #[no_mangle]
 pub extern "C" fn supharoek_step(
@@ -68,7 +66,7 @@ pub extern "C" fn supharoek_step(
         × (now (out .exit) ≡ shown (stepCall size (now (places .entry)) volume block priority .values) (now (out .entry)))
         × (now (places .exit) ≡ placesAfter size (now (places .entry)) volume block priority) ⌝ }
 {
-    if places.len() < PLACES {
+    if places.len() < LARGEST_SIZE {
         return refusal_number(Refusal::Room);
     }
     let card = Card {

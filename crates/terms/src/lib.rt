@@ -41,7 +41,7 @@ pub fn refusal_number(refusal: Refusal) -> u32
 
 pub const EDITION: u64 = 1;
 
-pub const LARGEST_SIZE: u64 = 127;
+pub const LARGEST_SIZE: usize = 127;
 
 pub const LARGEST_VOLUME: u64 = 65535;
 
@@ -65,7 +65,7 @@ pub fn is_edition(value: u64) -> bool
 pub fn is_size(value: u64) -> bool
     ensures { λ r. ⌜ r ≡ inRange size value ⌝ }
 {
-    within(1, value, LARGEST_SIZE)
+    within(1, value, LARGEST_SIZE as u64)
 }
 
 pub fn is_volume(value: u64) -> bool

@@ -13,14 +13,14 @@ use Rattle.card.proofs.step.step.Tie as tie
 is-state-requires : tie.Need-is-state-requires
 unfolding size
 is-state-requires c κs =
-    let long : length (c .before .before .before .args .t1 .places) ≡ 127 = search needs in
+    let long : length (c .before .before .before .args .t1 .places) ≡ size .largest = search needs in
     omega arith
 
 read-front-requires : tie.Need-read-front-requires
 unfolding size
 read-front-requires c κs =
     let card = c .before .before .before .before .before .before .before .before .before .before .before .args .t1 in
-    let long : length (card .places) ≡ 127 = search needs in
+    let long : length (card .places) ≡ size .largest = search needs in
     omega (arith, state-size (card .size) (card .places) (sym (c .before .before .before .before .before .before .before .is-state .ensures) ∙ not-false _ (c .before .before .before .before .before .before .if1 .left)))
 
 pub step-spec : {M : Type 1} → statement M

@@ -2,15 +2,18 @@
 use mathlib.Core.Path.{_≡_}
 use borrow.Author.Needs.{needs}
 use lib.ListN.{length}
+use Rattle.terms.specs.Ranges.{size}
 use Rattle.supharoek.specs.Told.{placesLent}
 use Rattle.supharoek.proofs.StepCases.{no-room, stepped}
 use Rattle.supharoek.proofs.steps.supharoek_step.Statement.{statement}
 use Rattle.supharoek.proofs.steps.supharoek_step.Tie as tie
 
 returns : tie.Need-returns
+unfolding size
 returns c = no-room _ _ _ _ _ (c .before .before .before .before .args .out .now) (c .before .if1 .taken) (c .refusal-number .ensures)
 
 returns-2 : tie.Need-returns-2
+unfolding size
 returns-2 c =
     let first = c .before .before .before .before .before .before .before .before .before .before .before .before in
     let step = c .before .before .before .before .before .before .before .before .before .before .before .step in
@@ -18,6 +21,7 @@ returns-2 c =
     stepped _ _ _ _ _ (first .before .before .before .before .before .args .out .now) (step .result) (first .before .before .if1 .left) (first .first-places .ensures) (step .ensures) long (c .before .before .before .before .before .before .write-places .ensures) (c .before .before .tell-step .ensures)
 
 pub supharoek-step-spec : {M : Type 1} → statement M
+unfolding size
 supharoek-step-spec =
     tie.close
     (tie.spec
