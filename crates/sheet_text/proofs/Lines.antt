@@ -29,21 +29,21 @@ module _ (counts : List ℕ) (m : ℕ) where
   pub six-put : {t t₁ t₂ t₃ t₄ t₅ t₆ : List ℕ} {from e₁ e₂ e₃ e₄ e₅ e₆ : ℕ}
       → Wrote t t₁ from e₁ (told (getD counts (6 * m) 0)) → Wrote t₁ t₂ e₁ e₂ (told (cell counts m 1)) → Wrote t₂ t₃ e₂ e₃ (told (cell counts m 2))
       → Wrote t₃ t₄ e₃ e₄ (told (cell counts m 3)) → Wrote t₄ t₅ e₄ e₅ (told (cell counts m 4)) → Wrote t₅ t₆ e₅ e₆ (told (cell counts m 5))
-      → Wrote t t₆ from e₆ (sixOf counts m)
+      → Wrote t t₆ from e₆ (sixOf (cell counts m))
   unfolding sixOf
   six-put a b c d e f = put-then (put-then (put-then (put-then (put-then (rw first-cell at a) b) c) d) e) f
 
   pub line-put : {t t₁ t₂ t₃ t₄ : List ℕ} {from e₁ e₂ e₃ e₄ : ℕ}
-      → Wrote t t₁ from e₁ (decimal (m + 1)) → Wrote t₁ t₂ e₁ e₂ (told (cell counts m 4 + cell counts m 5)) → Wrote t₂ t₃ e₂ e₃ (sixOf counts m)
-      → Wrote t₃ t₄ e₃ e₄ newline → Wrote t t₄ from e₄ (lineOf counts m)
+      → Wrote t t₁ from e₁ (decimal (m + 1)) → Wrote t₁ t₂ e₁ e₂ (told (cell counts m 4 + cell counts m 5)) → Wrote t₂ t₃ e₂ e₃ (sixOf (cell counts m))
+      → Wrote t₃ t₄ e₃ e₄ newline → Wrote t t₄ from e₄ (lineOf (cell counts m) m)
   unfolding lineOf
   line-put a b c d = put-then (put-then (put-then a b) c) d
 
   pub lines-put : {t t₁ t₂ : List ℕ} {from e₁ e₂ : ℕ}
-      → Wrote t t₁ from e₁ (linesOf counts m) → Wrote t₁ t₂ e₁ e₂ (lineOf counts m) → Wrote t t₂ from e₂ (linesOf counts (suc m))
+      → Wrote t t₁ from e₁ (linesOf (cell counts) m) → Wrote t₁ t₂ e₁ e₂ (lineOf (cell counts m) m) → Wrote t t₂ from e₂ (linesOf (cell counts) (suc m))
   unfolding linesOf
   lines-put a b = put-then a b
 
-pub no-lines : (counts : List ℕ) {t : List ℕ} {from : ℕ} → Wrote t t from from (linesOf counts 0)
+pub no-lines : (counts : List ℕ) {t : List ℕ} {from : ℕ} → Wrote t t from from (linesOf (cell counts) 0)
 unfolding linesOf
 no-lines counts = put-none

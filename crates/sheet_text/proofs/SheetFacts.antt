@@ -1,7 +1,7 @@
 -- What follows from the sheet's contract: the sheet of an accepted trace in terms of the separate runs, and that the contract leaves one outcome.
 use mathlib.Core.Path.{_≡_, refl, sym, ap, ap₂, _∙_}
 use mathlib.Core.Bool.{true}
-use mathlib.Core.List.{List, [], _++_}
+use mathlib.Core.List.{List, _++_}
 use Prim.Native.Nat.{ℕ, zero, suc, _+_, _*_, _<_}
 use native.Mathlib.Omega.{arith}
 use lib.ListN.{length, drop, List·getD-append}
@@ -13,30 +13,20 @@ use Rattle.card.specs.Stretches.{peakTotal, peakOfOne}
 use Rattle.sizes.specs.Outcome.{Areas, isRoom, countsOf, fronted, runOf}
 use Rattle.sizes.proofs.RanOutcomes.{counts-length}
 use Rattle.sizes.proofs.RanFacts.{Accepted, done-accepted, accepted-done, count-at}
-use Rattle.sheet_text.specs.Decimal.{decimal}
-use Rattle.sheet_text.specs.Sheet.{newline, told, heading, cell, sixOf, lineOf, linesOf, sheetOf, shown}
+use Rattle.sheet_text.specs.Sheet.{heading, cell, sixOf, lineOf, linesOf, sheetOf, shown}
 use Rattle.sheet_text.proofs.Bounds.{trace-size}
 
--- ---- lines by their cells
+-- ---- lines with the same counts
 
--- a line from the counts of its outcomes
-abbrev pub lineBy : (m : ℕ) (f : ℕ → ℕ) → List ℕ
-lineBy m f = decimal (m + 1) ++ told (f 4 + f 5) ++ (told (f 0) ++ told (f 1) ++ told (f 2) ++ told (f 3) ++ told (f 4) ++ told (f 5)) ++ newline
-
-line-by : (counts : List ℕ) (m : ℕ) (f : ℕ → ℕ) → ((o : ℕ) → o < 6 → cell counts m o ≡ f o) → lineOf counts m ≡ lineBy m f
+line-same : (f g : ℕ → ℕ) (m : ℕ) → ((o : ℕ) → o < 6 → f o ≡ g o) → lineOf f m ≡ lineOf g m
 unfolding lineOf sixOf
-line-by counts m f h =
+line-same f g m h =
     rw (h 0 (omega arith), h 1 (omega arith), h 2 (omega arith), h 3 (omega arith), h 4 (omega arith), h 5 (omega arith))
 
--- the lines from the counts of each size
-abbrev pub linesBy : (f : ℕ → ℕ → ℕ) → ℕ → List ℕ
-linesBy f zero = []
-linesBy f (suc m) = linesBy f m ++ lineBy m (f m)
-
-lines-by : (counts : List ℕ) (f : ℕ → ℕ → ℕ) (n : ℕ) → ((m o : ℕ) → m < n → o < 6 → cell counts m o ≡ f m o) → linesOf counts n ≡ linesBy f n
+lines-same : (f g : ℕ → ℕ → ℕ) (n : ℕ) → ((m o : ℕ) → m < n → o < 6 → f m o ≡ g m o) → linesOf f n ≡ linesOf g n
 unfolding linesOf
-lines-by counts f zero h = refl
-lines-by counts f (suc n) h = ap₂ (λ (x y : List ℕ). x ++ y) (lines-by counts f n (λ m o l g. h m o (omega arith) g)) (line-by counts n (f n) (λ o g. h n o (omega arith) g))
+lines-same f g zero h = refl
+lines-same f g (suc n) h = ap₂ (λ (x y : List ℕ). x ++ y) (lines-same f g n (λ m o l k. h m o (omega arith) k)) (line-same (f n) (g n) n (λ o k. h n o (omega arith) k))
 
 -- ---- an accepted trace
 
@@ -58,23 +48,18 @@ module _ (s : List ℕ) (areas : Areas) (t : Trace) (end : ℕ) where
     front-cell m o h g =
         List·getD-append (countsOf n rs) (drop (length (countsOf n rs)) (areas .counts)) 0 (6 * m + o) (omega (arith, counts-length n rs))
 
-    sheet-fronted : sheetOf s areas ≡ heading (length rs) (peakTotal n rs) (peakOfOne n rs) ++ linesOf (fronted (countsOf n rs) (areas .counts)) n
+    sheet-fronted : sheetOf s areas ≡ heading (length rs) (peakTotal n rs) (peakOfOne n rs) ++ linesOf (cell (fronted (countsOf n rs) (areas .counts))) n
     unfolding sheetOf
     sheet-fronted =
         let done = accepted-done s areas t end e room in
         let left = same-counts (length rs) (peakTotal n rs) (peakOfOne n rs) (done-accepted s areas (length rs) (peakTotal n rs) (peakOfOne n rs) done) in
         rw (done, left, trace-size s t end e)
 
-    -- the reads, the peaks and the counts of the separate runs
-    pub sheet-is : sheetOf s areas ≡ heading (length rs) (peakTotal n rs) (peakOfOne n rs) ++ linesOf (countsOf n rs) n
-    sheet-is =
-        let lines = lines-by (fronted (countsOf n rs) (areas .counts)) (cell (countsOf n rs)) n front-cell ∙ sym (lines-by (countsOf n rs) (cell (countsOf n rs)) n (λ m o h g. refl)) in
-        sheet-fronted ∙ ap (λ (x : List ℕ). heading (length rs) (peakTotal n rs) (peakOfOne n rs) ++ x) lines
-
-    -- the same, each count by the run of its own size
-    pub sheet-by-runs : sheetOf s areas ≡ heading (length rs) (peakTotal n rs) (peakOfOne n rs) ++ linesBy (λ m o. count (suc m) o rs) n
+    -- the reads, the peaks, and for each size the counts of the run of that size alone
+    pub sheet-by-runs : sheetOf s areas ≡ heading (length rs) (peakTotal n rs) (peakOfOne n rs) ++ linesOf (λ m o. count (suc m) o rs) n
     sheet-by-runs =
-        sheet-is ∙ ap (λ (x : List ℕ). heading (length rs) (peakTotal n rs) (peakOfOne n rs) ++ x) (lines-by (countsOf n rs) (λ m o. count (suc m) o rs) n (count-at n rs))
+        sheet-fronted ∙ ap (λ (x : List ℕ). heading (length rs) (peakTotal n rs) (peakOfOne n rs) ++ x)
+        (lines-same (cell (fronted (countsOf n rs) (areas .counts))) (λ m o. count (suc m) o rs) n (λ m o h g. front-cell m o h g ∙ count-at n rs m o h g))
 
 -- ---- one outcome
 

@@ -41,7 +41,7 @@ module _ (s : List ℕ) (areas : Areas) (a : Ran) (e : ranAnswer a ≡ runOf s a
     lines-ready h =
         rw (f, i) (omega (arith, lines-short s), counts-room s areas reads total one done, λ m l. omega (arith, misses-reads s areas reads total one done m l))
 
-    pub sheet-done : {t t₁ t₂ : List ℕ} {mid end : ℕ} → Wrote t t₁ 0 mid (heading reads total one) → Wrote t₁ t₂ mid end (linesOf counts n) → Wrote t t₂ 0 end (sheetOf s areas)
+    pub sheet-done : {t t₁ t₂ : List ℕ} {mid end : ℕ} → Wrote t t₁ 0 mid (heading reads total one) → Wrote t₁ t₂ mid end (linesOf (cell counts) n) → Wrote t t₂ 0 end (sheetOf s areas)
     unfolding sheetOf
     sheet-done w v = rw (done, ← f, ← i) (put-then w v)
 

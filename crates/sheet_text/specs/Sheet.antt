@@ -37,18 +37,18 @@ heading reads total one = accesses ++ told reads ++ stretches ++ told total ++ b
 abbrev pub cell : List ℕ → (m o : ℕ) → ℕ
 cell counts m o = getD counts (6 * m + o) 0
 
--- the six counts of the size after m sizes
-unfoldable pub sixOf : List ℕ → ℕ → List ℕ
-sixOf counts m = told (cell counts m 0) ++ told (cell counts m 1) ++ told (cell counts m 2) ++ told (cell counts m 3) ++ told (cell counts m 4) ++ told (cell counts m 5)
+-- the six counts, by outcome
+unfoldable pub sixOf : (ℕ → ℕ) → List ℕ
+sixOf counts = told (counts 0) ++ told (counts 1) ++ told (counts 2) ++ told (counts 3) ++ told (counts 4) ++ told (counts 5)
 
 -- the line of the size after m sizes: size, misses, and the six counts
-unfoldable pub lineOf : List ℕ → ℕ → List ℕ
-lineOf counts m = decimal (m + 1) ++ told (cell counts m 4 + cell counts m 5) ++ sixOf counts m ++ newline
+unfoldable pub lineOf : (ℕ → ℕ) → ℕ → List ℕ
+lineOf counts m = decimal (m + 1) ++ told (counts 4 + counts 5) ++ sixOf counts ++ newline
 
--- the lines of sizes 1 to n
-unfoldable pub linesOf : List ℕ → ℕ → List ℕ
+-- the lines of sizes 1 to n, each with its counts
+unfoldable pub linesOf : (ℕ → ℕ → ℕ) → ℕ → List ℕ
 linesOf counts zero = []
-linesOf counts (suc m) = linesOf counts m ++ lineOf counts m
+linesOf counts (suc m) = linesOf counts m ++ lineOf (counts m) m
 
 -- the one line of a refusal
 unfoldable pub refusedLine : (number place : ℕ) → List ℕ
@@ -61,7 +61,7 @@ sizeIn (Refused number place) = 0
 
 -- the sheet of a run: its answer and its counts
 abbrev pub sheetBy : (n : ℕ) (counts : List ℕ) → outcome.Answer → List ℕ
-sheetBy n counts (outcome.Done reads total one) = heading reads total one ++ linesOf counts n
+sheetBy n counts (outcome.Done reads total one) = heading reads total one ++ linesOf (cell counts) n
 sheetBy n counts (outcome.Refused number place) = refusedLine number place
 
 -- the sheet of a trace, in areas that are lent

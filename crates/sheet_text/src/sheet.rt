@@ -33,7 +33,7 @@ fn put_heading(text: &mut [u8], reads: u64, total: u64, one: u64) -> usize
 // The six counts of the size after m sizes.
 fn put_counts(text: &mut [u8], from: usize, counts: &[u64], m: usize) -> usize
     requires { ⌜ (from < 2 ^ 41) × (6 * m + 6 ≤ length (now counts)) ⌝ }
-    ensures { λ r. ⌜ Wrote (now (text .entry)) (now (text .exit)) from r (sixOf (now (counts .entry)) m) × (r ≤ from + 126) ⌝ }
+    ensures { λ r. ⌜ Wrote (now (text .entry)) (now (text .exit)) from r (sixOf (cell (now (counts .entry)) m)) × (r ≤ from + 126) ⌝ }
 {
     let mut at = put_told(text, from, counts[6 * m]);
     at = put_told(text, at, counts[6 * m + 1]);
@@ -46,7 +46,7 @@ fn put_counts(text: &mut [u8], from: usize, counts: &[u64], m: usize) -> usize
 // The line of the size after m sizes.
 fn put_line(text: &mut [u8], from: usize, counts: &[u64], m: usize) -> usize
     requires { ⌜ (from < 2 ^ 40) × (m < 2 ^ 32) × (6 * m + 6 ≤ length (now counts)) × (cell (now counts) m 4 + cell (now counts) m 5 < 2 ^ 64) ⌝ }
-    ensures { λ r. ⌜ Wrote (now (text .entry)) (now (text .exit)) from r (lineOf (now (counts .entry)) m) × (r ≤ from + 256) ⌝ }
+    ensures { λ r. ⌜ Wrote (now (text .entry)) (now (text .exit)) from r (lineOf (cell (now (counts .entry)) m) m) × (r ≤ from + 256) ⌝ }
 {
     let mut at = put_number(text, from, (m + 1) as u64);
     at = put_told(text, at, counts[6 * m + 4] + counts[6 * m + 5]);
@@ -57,7 +57,7 @@ fn put_line(text: &mut [u8], from: usize, counts: &[u64], m: usize) -> usize
 // The lines of sizes 1 to n.
 fn put_lines(text: &mut [u8], from: usize, counts: &[u64], n: usize) -> usize
     requires { ⌜ (from < 2 ^ 20) × (n < 2 ^ 16) × (6 * n ≤ length (now counts)) × ((m : ℕ) → m < n → cell (now counts) m 4 + cell (now counts) m 5 < 2 ^ 64) ⌝ }
-    ensures { λ r. ⌜ Wrote (now (text .entry)) (now (text .exit)) from r (linesOf (now (counts .entry)) n) × (r ≤ from + n * 256) ⌝ }
+    ensures { λ r. ⌜ Wrote (now (text .entry)) (now (text .exit)) from r (linesOf (cell (now (counts .entry))) n) × (r ≤ from + n * 256) ⌝ }
 {
     let mut at = from;
     let mut m = 0;

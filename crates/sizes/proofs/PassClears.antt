@@ -1,16 +1,31 @@
 -- Laws of a sweep that clears an area: what it has passed are zeros.
-use mathlib.Core.Path.{_≡_, sym, ap, _∙_}
+use mathlib.Core.Path.{_≡_, refl, sym, ap, _∙_}
 use mathlib.Core.List.{List, [], _∷_, _++_}
 use Prim.Native.Nat.{ℕ, _+_, _≤_, _<_}
 use native.Mathlib.Numerals.{add-one}
 use native.Mathlib.Omega.{arith}
-use lib.ListN.{length, take, set, replicate-append-replicate}
+use lib.ListN.{length, take, set, length-set, replicate-append-replicate}
 use lib.Seq.{take-all, take-suc-set}
 use Rattle.sizes.specs.Outcome.{zeros}
 
-pub clear-turn : (s : List ℕ) (i : ℕ) → i < length s → take i s ≡ zeros i → take (i + 1) (set s i 0) ≡ zeros (i + 1)
-clear-turn s i h e =
-    ap (λ (k : ℕ). take k (set s i 0)) (add-one i) ∙ take-suc-set s i 0 h ∙ ap (λ (l : List ℕ). l ++ (0 ∷ [])) e ∙ replicate-append-replicate i 1 0
+-- the sweep has passed i elements
+pub record Cleared (area₀ area : List ℕ) (i : ℕ) : Type 0 where
+  pub within : i ≤ length area
+  pub size : length area ≡ length area₀
+  pub passed : take i area ≡ zeros i
 
-pub clear-end : (s : List ℕ) (i n : ℕ) → take i s ≡ zeros i → i ≤ length s → length s ≤ i → length s ≡ n → s ≡ zeros n
-clear-end s i n e h g l = let all : i ≡ n = omega arith in sym (take-all i s g) ∙ e ∙ ap zeros all
+pub cleared-none : (area : List ℕ) → Cleared area area 0
+cleared-none area = record { within = omega arith; size = refl; passed = refl }
+
+module _ (area₀ area : List ℕ) (i : ℕ) (cleared : Cleared area₀ area i) where
+  pub cleared-next : i < length area → Cleared area₀ (set area i 0) (i + 1)
+  cleared-next h = record {
+    within = omega (arith, length-set area i 0);
+    size = length-set area i 0 ∙ cleared .size;
+    passed = ap (λ (k : ℕ). take k (set area i 0)) (add-one i) ∙ take-suc-set area i 0 h ∙ ap (λ (l : List ℕ). l ++ (0 ∷ [])) (cleared .passed) ∙ replicate-append-replicate i 1 0;
+  }
+
+  pub cleared-all : length area ≤ i → area ≡ zeros (length area₀)
+  cleared-all h =
+      let all : i ≡ length area₀ = omega (arith, cleared .within, cleared .size) in
+      sym (take-all i area h) ∙ cleared .passed ∙ ap zeros all

@@ -1,27 +1,25 @@
 -- The ways out of the step and of the miss ratio, each from what was tested and what the callees said.
 use mathlib.Core.Path.{_≡_, refl, sym, ap, _∙_}
-use mathlib.Core.List.{List, [], _∷_, _++_, append-nil}
+use mathlib.Core.List.{List, _++_, append-nil}
 use Prim.Native.Nat.{ℕ, suc, _+_, _≤_, _<_}
 use native.Mathlib.Numerals.{add-one}
 use native.Mathlib.Omega.{arith}
 use borrow.Author.Tests.{lt-leb, le-leb}
 use lib.Ieee.{Float}
 use lib.ListN.{length, take, drop, set, getD, drop-of-length-le}
-use lib.Seq.{take-nil, take-all, length-take-le, take-suc, drop-cons, set-at, append-snoc}
-use Rattle.terms.specs.declared.Refusal.{Refusal}
+use lib.Seq.{take-all, length-take-le, take-suc, drop-cons, set-at, append-snoc}
 use Rattle.terms.specs.declared.Refusal.the-variants as the-refusal
 use Rattle.terms.specs.Refusals.{numberOf}
 use Rattle.card.specs.State.{stepOf}
 use Rattle.card.specs.Ratio.{ratioOf}
 use Rattle.card.specs.Answers.{answerOf, steppedAnswer, ratioAnswer}
-use Rattle.card.specs.declared.step.Answer.{Answer}
-use Rattle.card.specs.declared.step.Answer.the-variants as the-answer
 use Rattle.card.specs.declared.step.Stepped.{Stepped}
 use Rattle.card.specs.declared.ratio.MissRatio.{MissRatio}
 use Rattle.card.specs.declared.ratio.MissRatio.the-variants as the-ratio
 use Rattle.sheet_text.specs.Sheet.{shown}
 use Rattle.supharoek.specs.Told.{placesLent, stepTold, stepCall, placesAfter}
 use Rattle.supharoek.specs.Ratios.{ratioNumber, ratioAfter}
+use Rattle.supharoek.proofs.Tellings.{shown-none}
 
 -- ---- places that are written over
 
@@ -50,24 +48,11 @@ first-is first places before h l e =
 
 -- ---- what a step tells
 
--- no value leaves the caller's numbers as they are
-shown-none : (out : List ℕ) → shown [] out ≡ out
-shown-none out = ap (λ (l : List ℕ). l ++ out) (take-nil (length out))
-
-module _ {answer : Answer} (out : List ℕ) where
-  pub told-outcome : {o : ℕ} {after : List ℕ} → answer ≡ the-answer.Outcome o → after ≡ shown (o ∷ []) out
-      → (0 ≡ stepTold (answerOf answer) .number) × (after ≡ shown (stepTold (answerOf answer) .values) out)
-  told-outcome a e = rw a (refl, e)
-
-  pub told-refused : {why : Refusal} {n : ℕ} → answer ≡ the-answer.Refused why → n ≡ numberOf why
-      → (n ≡ stepTold (answerOf answer) .number) × (out ≡ shown (stepTold (answerOf answer) .values) out)
-  told-refused a e = rw a (e, sym (shown-none out))
-
 module _ (size : ℕ) (places : List ℕ) (v b p : ℕ) (out : List ℕ) {n : ℕ} where
   pub no-room : length places < placesLent → n ≡ numberOf the-refusal.Room
       → (n ≡ stepCall size places v b p .number) × (out ≡ shown (stepCall size places v b p .values) out) × (places ≡ placesAfter size places v b p)
   unfolding stepCall placesAfter
-  no-room h e = rw (lt-leb placesLent (length places) h) (e, sym (shown-none out), refl)
+  no-room h e = rw (lt-leb placesLent (length places) h) (e, shown-none out, refl)
 
   pub stepped : {first : List ℕ} (s : Stepped) {after told : List ℕ} → placesLent ≤ length places → first ≡ take placesLent places
       → steppedAnswer s ≡ stepOf size first v b p → length (s .card .places) ≡ placesLent

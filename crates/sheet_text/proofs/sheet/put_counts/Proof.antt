@@ -13,7 +13,8 @@ returns c =
     let third = fourth .before .before .before .before .before in
     let second = third .before .before .before .before .before in
     let first = second .before .before .before .before .before in
-    (six-put _ _ (first .put-told .ensures .0) (second .put-told2 .ensures .0) (third .put-told3 .ensures .0) (fourth .put-told4 .ensures .0) (fifth .put-told5 .ensures .0) (sixth .put-told6 .ensures .0), omega arith)
+    let args = first .before .before .before .before .before .args in
+    (six-put (args .counts .now) (args .m) (first .put-told .ensures .0) (second .put-told2 .ensures .0) (third .put-told3 .ensures .0) (fourth .put-told4 .ensures .0) (fifth .put-told5 .ensures .0) (sixth .put-told6 .ensures .0), omega arith)
 
 pub put-counts-spec : {M : Type 1} → statement M
 put-counts-spec =

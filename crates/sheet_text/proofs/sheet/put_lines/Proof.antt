@@ -4,14 +4,14 @@ use Prim.Native.Nat.{_+_, _-_, _*_, _≤_}
 use native.Mathlib.Numerals.{add-one}
 use native.Mathlib.Omega.{arith}
 use lib.ListN.{length}
-use Rattle.sheet_text.specs.Sheet.{linesOf}
+use Rattle.sheet_text.specs.Sheet.{cell, linesOf}
 use Rattle.sheet_text.specs.Writing.{Wrote}
 use Rattle.sheet_text.proofs.Lines.{no-lines, lines-put}
 use Rattle.sheet_text.proofs.sheet.put_lines.Statement.{statement}
 use Rattle.sheet_text.proofs.sheet.put_lines.Tie as tie
 
 abbrev Inv-loop : tie.InvT-loop
-Inv-loop text₀ from counts n at₀ m₀ text at m = (m ≤ n) × (at ≤ from + m * 256) × Wrote text₀ text from at (linesOf counts m) × (length text ≡ length text₀)
+Inv-loop text₀ from counts n at₀ m₀ text at m = (m ≤ n) × (at ≤ from + m * 256) × Wrote text₀ text from at (linesOf (cell counts) m) × (length text ≡ length text₀)
 
 abbrev μ-loop : tie.MeasureT-loop
 μ-loop text₀ from counts n at₀ m₀ text at m = n - m
@@ -22,7 +22,7 @@ put-line-requires c κs = (omega arith, omega arith, omega arith, c .before .bef
 loop-again : tie.Need-loop-again Inv-loop μ-loop
 loop-again c =
     let l = c .before .before .before .before .before .loop in
-    (omega arith, omega arith, rw add-one (lines-put _ _ (l .inv .2) (c .before .before .put-line .ensures .0)), c .before .before .put-line .kept .0 ∙ l .inv .3)
+    (omega arith, omega arith, rw add-one (lines-put (c .before .before .before .before .before .before .before .before .args .counts .now) (l .m) (l .inv .2) (c .before .before .put-line .ensures .0)), c .before .before .put-line .kept .0 ∙ l .inv .3)
 
 returns : tie.Need-returns Inv-loop μ-loop
 returns c =
@@ -36,7 +36,7 @@ put-lines-spec =
     (tie.spec
     Inv-loop
     μ-loop
-    (λ c. (omega arith, omega arith, no-lines _, refl))
+    (λ c. (omega arith, omega arith, no-lines (c .before .before .args .counts .now), refl))
     put-line-requires
     (λ c. omega arith)
     (λ c. omega arith)

@@ -1,14 +1,17 @@
 -- `supharoek::steps::tell_step` meets its contract: a refusal tells no value. Assumes nothing.
 use borrow.Author.Needs.{needs}
-use Rattle.supharoek.proofs.StepCases.{told-outcome, told-refused}
+use mathlib.Core.Path.{refl}
+use Rattle.card.specs.Answers.{answerOf}
+use Rattle.supharoek.specs.Told.{stepTold}
+use Rattle.supharoek.proofs.Tellings.{told-case, shown-none}
 use Rattle.supharoek.proofs.steps.tell_step.Statement.{statement}
 use Rattle.supharoek.proofs.steps.tell_step.Tie as tie
 
 returns : tie.Need-returns
-returns c = told-outcome (c .before .before .before .before .before .before .before .before .args .out .now) (c .before .before .before .before .before .answer .given .1) (c .before .before .tell-one .ensures)
+returns c = told-case answerOf stepTold (c .before .before .before .before .before .before .before .before .args .out .now) _ _ _ refl _ (c .before .before .before .before .before .answer .given .1) _ _ _ refl refl (c .before .before .tell-one .ensures)
 
 returns-2 : tie.Need-returns-2
-returns-2 c = told-refused (c .before .before .before .before .before .args .out .now) (c .before .before .answer2 .given .1) (c .refusal-number .ensures)
+returns-2 c = told-case answerOf stepTold (c .before .before .before .before .before .args .out .now) _ _ _ refl _ (c .before .before .answer2 .given .1) _ _ _ refl (c .refusal-number .ensures) (shown-none _)
 
 pub tell-step-spec : {M : Type 1} → statement M
 tell-step-spec =
