@@ -9,7 +9,8 @@ use lib.Dec.{eqb}
 use Rattle.card.proofs.Tests.{by-lt, by-eq, tests}
 use Rattle.sizes.specs.Moves.{sourceOf}
 use Rattle.sizes.specs.Totals.{sumTo, mostTo}
-use Rattle.sizes.specs.Sweeps.{movedOf, leftOf}
+use Rattle.sizes.specs.Renewals.{movedOf}
+use Rattle.sizes.specs.Sweeps.{leftOf}
 use Rattle.sizes.proofs.RowLaws.{backOf, bumpOf}
 
 module _ (f g : ℕ → ℕ) where

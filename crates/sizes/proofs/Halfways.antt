@@ -7,27 +7,15 @@ use native.Mathlib.Omega.{arith}
 use Rattle.card.proofs.Tests.{by-eq, by-lt, tests}
 use Rattle.sizes.specs.Moves.{Family, sourceOf, newOf}
 use Rattle.sizes.specs.Totals.{mostTo}
-use Rattle.sizes.specs.Sweeps.{Kept, RowAt, RowsOf, Bound, comes, stands, movedOf, Halfway, AllCounted}
+use Rattle.sizes.specs.Renewals.{RowAt, Renewed, comes, stands, movedOf}
+use Rattle.sizes.specs.Sweeps.{RowsOf, Bound, Halfway, AllCounted}
 use Rattle.sizes.specs.declared.rows.Changes.{Changes}
-use Rattle.sizes.specs.declared.sweeps.Read.{Read}
+use Rattle.sizes.specs.declared.renewals.Read.{Read}
 use Rattle.sizes.proofs.RowLaws.{row-kept, apart, source-near, source-lo}
 use Rattle.sizes.proofs.RowCounts.{stretches-none}
 use Rattle.sizes.proofs.Exchanges.{sum-last, most-over, most-under}
 
 module _ (read : Read) (left : ℕ) (J : ℕ → ℕ) (L : ℕ → ℕ → ℕ) where
-  -- how the renewal of row k changes an area, and the numbers that are kept of it
-  pub record Renewed (k : ℕ) (changes next : Changes) (area last : List ℕ) : Type 0 where
-    pub kept : Kept area last ((k - 1) * read .width) (read .width)
-    pub row : RowAt last read k (newOf J (read .p) (read .j) L k)
-    pub gained : ℕ
-    pub lost : ℕ
-    pub longest : ℕ
-    pub balance : gained + comes read L k ≡ lost + stands read J L k
-    pub most : (B : ℕ) → comes read L k ≤ B → max B longest ≡ max B (stands read J L k)
-    pub gains : next .gained ≡ changes .gained + gained
-    pub loses : next .lost ≡ changes .lost + lost
-    pub lengthens : next .longest ≡ max (changes .longest) longest
-
   -- nothing is done yet
   pub halfway-none : (changes : Changes) (area : List ℕ) → changes .gained ≡ 0 → changes .lost ≡ left → changes .longest ≡ 0 → RowsOf area (read .width) (read .n) L → Halfway read left 0 (read .n) changes area J L
   halfway-none changes area g l m rows = record {
@@ -62,20 +50,20 @@ module _ (read : Read) (left : ℕ) (J : ℕ → ℕ) (L : ℕ → ℕ → ℕ) 
       omega (arith, stretches-none (L (sourceOf (read .p) (read .j) k)) (read .n) (λ m. ap (λ (z : ℕ). L z m) e ∙ fam .past m)))
       (λ in-card. bound (sourceOf (read .p) (read .j) k) (omega (arith, source-lo (read .p) (read .j) k pos some)) in-card)))
 
-  module _ (k : ℕ) (changes next : Changes) (area last : List ℕ) (pos : 0 < read .p) (some : 0 < k) (le : k ≤ read .n) (fam : Family L (read .n)) (re : Renewed k changes next area last) where
+  module _ (k : ℕ) (changes next : Changes) (area last : List ℕ) (pos : 0 < read .p) (some : 0 < k) (le : k ≤ read .n) (fam : Family L (read .n)) (re : Renewed read J L k changes next area last) where
     other : (y : ℕ) (R : ℕ → ℕ) → 1 ≤ y → y ≢ k → RowAt area read y R → RowAt last read y R
     other y R one ne row = row-kept area last ((k - 1) * read .width) (read .width) ((y - 1) * read .width) (read .n) R (re .kept) (apart k y (read .width) some (omega arith) ne) row
 
-    below-most : (B : ℕ) → Bound (read .n) L B → max B (re .longest) ≡ max B (stands read J L k)
+    below-most : (B : ℕ) → Bound (read .n) L B → max B (re .more .longest) ≡ max B (stands read J L k)
     below-most B bound = re .most B (comes-under k B pos some le fam bound)
 
     reached-next : (B : ℕ) → Bound (read .n) L B → changes .longest ≤ max B (mostTo (read .n) (stands read J L)) → next .longest ≤ max B (mostTo (read .n) (stands read J L))
-    reached-next B bound h = omega (arith, re .lengthens, below-most B bound, most-over (stands read J L) (read .n) k (omega arith) le)
+    reached-next B bound h = omega (arith, re .together .2, below-most B bound, most-over (stands read J L) (read .n) k (omega arith) le)
 
     covered-next : (B y : ℕ) → Bound (read .n) L B → (y ≢ k → stands read J L y ≤ max B (changes .longest)) → stands read J L y ≤ max B (next .longest)
     covered-next B y bound h = by-eq y k
-        (λ e. omega (arith, ap (stands read J L) e, re .lengthens, below-most B bound))
-        (λ ne. omega (arith, h ne, re .lengthens))
+        (λ e. omega (arith, ap (stands read J L) e, re .together .2, below-most B bound))
+        (λ ne. omega (arith, h ne, re .together .2))
 
     new-next : (y : ℕ) → 1 ≤ y → (y ≢ k → RowAt area read y (newOf J (read .p) (read .j) L y)) → RowAt last read y (newOf J (read .p) (read .j) L y)
     new-next y one row = by-eq y k (λ e. rw e (re .row)) (λ ne. other y (newOf J (read .p) (read .j) L y) one ne (row ne))
@@ -85,7 +73,7 @@ module _ (read : Read) (left : ℕ) (J : ℕ → ℕ) (L : ℕ → ℕ → ℕ) 
     halfway-up b kb half = record {
       old = λ y a z. other y (L y) (omega arith) (λ e. omega arith) (half .old y (omega arith) z);
       new = λ y a z h. new-next y a (λ ne. half .new y a z (⊎-elim (λ u. inl (omega (arith, ne))) (λ u. inr u) h));
-      sums = omega (arith, half .sums, re .balance, re .gains, re .loses, sum-last (comes read L) k some, sum-last (stands read J L) k some);
+      sums = omega (arith, half .sums, re .balance, re .together .0, re .together .1, sum-last (comes read L) k some, sum-last (stands read J L) k some);
       covered = λ B bound y a z h. covered-next B y bound (λ ne. half .covered B bound y a z (⊎-elim (λ u. inl (omega (arith, ne))) (λ u. inr u) h));
       reached = λ B bound. reached-next B bound (half .reached B bound);
     }
@@ -95,7 +83,7 @@ module _ (read : Read) (left : ℕ) (J : ℕ → ℕ) (L : ℕ → ℕ → ℕ) 
     halfway-down a ak half = record {
       old = λ y b z. other y (L y) (omega arith) (λ e. omega arith) (half .old y b (omega arith));
       new = λ y b z h. new-next y b (λ ne. half .new y b z (⊎-elim (λ u. inl u) (λ u. inr (omega (arith, ne))) h));
-      sums = omega (arith, half .sums, re .balance, re .gains, re .loses, sum-last (comes read L) k some, sum-last (stands read J L) k some);
+      sums = omega (arith, half .sums, re .balance, re .together .0, re .together .1, sum-last (comes read L) k some, sum-last (stands read J L) k some);
       covered = λ B bound y b z h. covered-next B y bound (λ ne. half .covered B bound y b z (⊎-elim (λ u. inl u) (λ u. inr (omega (arith, ne))) h));
       reached = λ B bound. reached-next B bound (half .reached B bound);
     }

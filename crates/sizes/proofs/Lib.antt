@@ -9,6 +9,7 @@ pub mod RowSkips
 pub mod Clamps
 pub mod Exchanges
 pub mod RowCounts
+pub mod Ways
 pub mod Halfways
 pub mod RowSteps
 pub mod Stills

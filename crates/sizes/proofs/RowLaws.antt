@@ -13,7 +13,7 @@ use borrow.Author.Tests.{lt-ltb, le-ltb, eq-eqb, ne-eqb}
 use Rattle.card.proofs.Tests.{bit}
 use Rattle.sizes.specs.Moves.{after, own, sourceOf, newOf}
 use Rattle.sizes.specs.Rows.{pairs, Row}
-use Rattle.sizes.specs.Sweeps.{Kept}
+use Rattle.sizes.specs.Renewals.{Kept}
 use Rattle.sizes.proofs.PairLaws.{lt-cases, eq-cases, level-pairs, pairs-zero, after-absent}
 
 -- A block that is nowhere has no stretch.

@@ -11,7 +11,7 @@ use lib.ListN.{List·getD-eq-default}
 use Rattle.card.specs.Falling.{Falling}
 use Rattle.sizes.specs.Rows.{pairs, rowLength, Row}
 use Rattle.sizes.specs.Lists.{Holds, Ends}
-use Rattle.sizes.specs.Sweeps.{Kept}
+use Rattle.sizes.specs.Renewals.{Kept}
 use Rattle.sizes.proofs.PairLaws.{lt-cases}
 use Rattle.sizes.proofs.PairFacts.{pairs-fit, ends}
 

@@ -1,18 +1,20 @@
 -- The rows below the blocks that move, where a read touches none of them.
 use mathlib.Core.Path.{_≡_, refl, sym, _∙_, subst}
-use mathlib.Core.Logic.{_⊎_, _≢_, ⊎-elim}
+use mathlib.Core.Logic.{_⊎_, ⊎-elim}
 use mathlib.Core.List.{List}
 use Prim.Native.Nat.{ℕ, zero, suc, _+_, _-_, _≤_, _<_}
 use native.Mathlib.Omega.{arith}
 use lib.ListN.{getD}
 use Rattle.sizes.specs.Moves.{after}
 use Rattle.sizes.specs.Rows.{pairs}
-use Rattle.sizes.specs.Sweeps.{Finds, Halfway}
+use Rattle.sizes.specs.Renewals.{Finds}
+use Rattle.sizes.specs.Sweeps.{Halfway}
 use Rattle.sizes.specs.declared.rows.Changes.{Changes}
-use Rattle.sizes.specs.declared.sweeps.Read.{Read}
-use Rattle.sizes.proofs.RowLaws.{source-below, after-none}
+use Rattle.sizes.specs.declared.renewals.Read.{Read}
+use Rattle.sizes.proofs.RowLaws.{after-none}
 use Rattle.sizes.proofs.RowSkips.{first-bound, keep-below}
 use Rattle.sizes.proofs.Halfways.{halfway-down}
+use Rattle.sizes.proofs.Ways.{way-below}
 use Rattle.sizes.proofs.RowSteps.{still-row}
 
 module _ (read : Read) (left : ℕ) (J : ℕ → ℕ) (L : ℕ → ℕ → ℕ) (list : List ℕ) (finds : Finds list read J L) (pos : 0 < read .p) (present : 0 < read .j) (first : getD list 0 0 ≡ read .j) where
@@ -46,6 +48,5 @@ module _ (read : Read) (left : ℕ) (J : ℕ → ℕ) (L : ℕ → ℕ → ℕ) 
           let k = bottom + suc d in
           let pk : read .p < k = ⊎-elim (λ h. omega arith) (λ h. absurd (omega arith)) side in
           let e : k - 1 ≡ bottom + d = omega arith in
-          let ne : k ≢ read .p = omega arith in
-          let still = still-row read left J L k changes area ne (source-below (read .p) (read .j) k present (omega arith) pk) (still-below k (omega arith) pk) (half .old k (omega arith) (omega arith)) in
+          let still = still-row (way-below read k present (omega arith) (omega arith) pk) J L changes area (still-below k (omega arith) pk) (half .old k (omega arith) (omega arith)) in
           down d (omega arith) (subst (λ (z : ℕ). Halfway read left a z changes area J L) e (halfway-down read left J L k changes changes area area pos (omega arith) le (finds .family) still a (omega arith) half))

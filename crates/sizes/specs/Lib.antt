@@ -4,6 +4,7 @@ pub mod Tallies
 pub mod Totals
 pub mod Outcome
 pub mod Lists
+pub mod Renewals
 pub mod Sweeps
 pub mod TallySteps
 pub mod Passing

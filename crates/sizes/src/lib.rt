@@ -2,6 +2,7 @@
 mod engine;
 mod lists;
 mod numbers;
+mod renewals;
 mod rows;
 pub mod run;
 mod sweeps;

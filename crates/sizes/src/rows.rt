@@ -14,7 +14,7 @@ ghost use Rattle.sizes.specs.Rows.{pairs, rowLength, Row};
 ghost use Rattle.card.specs.Falling.{Falling};
 ghost use Rattle.sizes.specs.Moves.{after};
 ghost use Rattle.sizes.specs.Lists.{Begins};
-ghost use Rattle.sizes.specs.Sweeps.{Kept, Carried};
+ghost use Rattle.sizes.specs.Renewals.{Kept, Carried, CarriedNone, Merged};
 ghost use Rattle.card.specs.Stretches.{stretches};
 
 // How the number of stretches changed, and the length of the longest list that was made.
@@ -96,8 +96,7 @@ pub fn clear(area: &mut [u16], at: usize, width: usize)
 pub fn move_nothing(area: &mut [u16], from: usize, at: usize, width: usize) -> bool
     requires { ⌜ (2 ≤ width) × (from + width ≤ length (now area)) × (at + width ≤ length (now area)) ⌝ }
     ensures kept { λ r. ⌜ Kept (now (area .entry)) (now (area .exit)) at width × (r ≡ false → (now (area .exit) ≡ now (area .entry)) × (0 < getD (now (area .entry)) from 0)) ⌝ }
-    ensures moved { λ r. ⌜ (r ≡ true → (n p : ℕ) (J S T : ℕ → ℕ) → width ≡ rowLength n → 0 < p → Falling T → ((0 < S n) ⊎ ((m : ℕ) → S m ≡ 0)) → Falling S
-        → Carried (now (area .entry)) (now (area .exit)) from at width n p J S T) ⌝ }
+    ensures moved { λ r. ⌜ (r ≡ true → CarriedNone (now (area .entry)) (now (area .exit)) from at width) ⌝ }
 {
     if 0 < area[from] {
         return false;
@@ -174,8 +173,7 @@ pub fn merge_row(
 ) -> Changes
     requires { ⌜ (0 < p) × (n < 65535) × (width ≡ rowLength n) × (from + width ≤ length (now area)) × (at + width ≤ length (now area)) × (width < length (now scratch)) ⌝ }
     ensures kept { λ r. ⌜ (r .gained ≤ width) × (r .lost ≤ width) × Kept (now (area .entry)) (now (area .exit)) at width ⌝ }
-    ensures merged { λ r. ⌜ ((J S T : ℕ → ℕ) → Falling J → Falling S → Falling T → Begins (now (list .entry)) J n → Row (now (area .entry)) from width (pairs S n) → Row (now (area .entry)) at width (pairs T n)
-        → Row (now (area .exit)) at width (pairs (after J p S) n) × (r .gained ≡ stretches (after J p S) n) × (r .lost ≡ stretches S n) × (r .longest ≡ r .gained)) ⌝ }
+    ensures merged { λ r. ⌜ Merged (now (list .entry)) (now (area .entry)) (now (area .exit)) from at width n p r ⌝ }
 {
     let old = copy_row(area, from, width, scratch) / 2;
     let new = renew(area, at, width, list, scratch, p, n) / 2;

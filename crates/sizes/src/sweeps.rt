@@ -1,14 +1,13 @@
 // One read on all rows: those above and below the blocks that move stay unless the read touches their list, and the others go one place up or down.
 use crate::lists::count_entries;
-use crate::numbers::larger;
+use crate::renewals::Read;
+use crate::renewals::above_row;
+use crate::renewals::below_row;
+use crate::renewals::down_row;
+use crate::renewals::own;
+use crate::renewals::up_row;
 use crate::rows::Changes;
-use crate::rows::clear;
-use crate::rows::lower_pair;
-use crate::rows::merge_row;
-use crate::rows::move_nothing;
-use crate::rows::raise_pair;
 use crate::rows::row_length;
-use crate::rows::write_row;
 ghost use mathlib.Core.Path.{_≡_};
 ghost use mathlib.Core.Bool.{true, false};
 ghost use mathlib.Core.Logic.{_⊎_};
@@ -19,55 +18,13 @@ ghost use Rattle.sizes.specs.Rows.{pairs, rowLength, Row};
 ghost use Rattle.card.specs.Falling.{Falling};
 ghost use Rattle.sizes.specs.Moves.{Family, newOf};
 ghost use Rattle.sizes.specs.Lists.{Begins};
-ghost use Rattle.sizes.specs.Sweeps.{Fits, Finds, Halfway, Small, Grown, RowsOf, AllCounted, Found, leftOf};
+ghost use Rattle.sizes.specs.Renewals.{Fits, Ready, Finds, Grown};
+ghost use Rattle.sizes.specs.Sweeps.{Leads, RowsOf, AllCounted, Found, leftOf};
 ghost use Rattle.sizes.specs.Totals.{sumTo, mostTo};
 ghost use Rattle.card.specs.Stretches.{stretches};
 ghost use Rattle.card.specs.Stretches as card;
 
-// A read as the rows see it: the size of the largest card, the length of a row, the priority in reach, and the place of the block read in the largest card.
-pub struct Read {
-    pub n: u16,
-    pub width: usize,
-    pub p: u16,
-    pub j: u16,
-}
-
-// Both changes together.
-fn with(changes: Changes, more: Changes) -> Changes
-    requires { ⌜ (changes .gained + more .gained < 2 ^ 64) × (changes .lost + more .lost < 2 ^ 64) ⌝ }
-    ensures { λ r. ⌜ (r .gained ≡ changes .gained + more .gained) × (r .lost ≡ changes .lost + more .lost) × (r .longest ≡ max (changes .longest) (more .longest)) ⌝ }
-{
-    Changes {
-        gained: changes.gained + more.gained,
-        lost: changes.lost + more.lost,
-        longest: larger(changes.longest, more.longest),
-    }
-}
-
-// The row of place k, which is above p and the block read: only a place from the upper of these two on changes.
-fn above_row(
-    area: &mut [u16],
-    list: &[u16],
-    scratch: &mut [u16],
-    read: Read,
-    k: u16,
-    lo: u16,
-    changes: Changes,
-) -> Changes
-    requires { ⌜ Fits read (length (now area)) × (2 ≤ length (now list)) × (read .width < length (now scratch)) × (0 < k) × (k < lo) × (lo ≤ read .p) × ((read .j ≡ 0) ⊎ (lo ≤ read .j)) × (k ≤ read .n) × Small changes (2 ^ 48) ⌝ }
-    ensures grown { λ r. ⌜ Grown changes r (2 ^ 16) ⌝ }
-    ensures halfway { λ r. ⌜ ((left b : ℕ) (J : ℕ → ℕ) (L : ℕ → ℕ → ℕ) → k ≤ b → b ≤ read .n → Finds (now (list .entry)) read J L
-        → Halfway read left (k - 1) (b) changes (now (area .entry)) J L → Halfway read left (k) (b) r (now (area .exit)) J L) ⌝ }
-{
-    let at = ((k - 1) as usize) * read.width;
-    if area[at + 1] < lo {
-        return changes;
-    }
-    let more = merge_row(area, at, at, read.width, list, scratch, read.p, read.n);
-    with(changes, more)
-}
-
-// All of them, from the first row on.
+// The rows above p and the block read, from the first one on.
 fn above(
     area: &mut [u16],
     list: &[u16],
@@ -76,10 +33,9 @@ fn above(
     lo: u16,
     changes: Changes,
 ) -> Changes
-    requires { ⌜ Fits read (length (now area)) × (2 ≤ length (now list)) × (read .width < length (now scratch)) × (0 < lo) × (lo ≤ read .p) × ((read .j ≡ 0) ⊎ (lo ≤ read .j)) × (lo ≤ read .n) × Small changes (2 ^ 40) ⌝ }
+    requires { ⌜ Ready read (now area) (now list) (now scratch) changes (2 ^ 40) × (0 < lo) × (lo ≤ read .p) × ((read .j ≡ 0) ⊎ (lo ≤ read .j)) × (lo ≤ read .n) ⌝ }
     ensures grown { λ r. ⌜ Grown changes r (2 ^ 32) ⌝ }
-    ensures halfway { λ r. ⌜ ((left : ℕ) (J : ℕ → ℕ) (L : ℕ → ℕ → ℕ) → Finds (now (list .entry)) read J L → Halfway read left (0) (read .n) changes (now (area .entry)) J L
-        → Halfway read left (lo - 1) (read .n) r (now (area .exit)) J L) ⌝ }
+    ensures leads { λ r. ⌜ Leads (now (list .entry)) read 0 (read .n) changes (now (area .entry)) (lo - 1) (read .n) r (now (area .exit)) ⌝ }
 {
     let mut sum = changes;
     let mut k: u16 = 1;
@@ -90,42 +46,7 @@ fn above(
     sum
 }
 
-// A block at place k that is there at no size, or whose places are all below those of the block read, whose list begins with start and place.
-fn is_below(first: u16, start: u16, place: u16, k: u16) -> bool
-    ensures { λ r. ⌜ (r ≡ true → (first ≡ 0) ⊎ ((start ≤ first) × (place < k))) ⌝ }
-{
-    if first == 0 {
-        return true;
-    }
-    if first < start {
-        return false;
-    }
-    place < k
-}
-
-// The row of place k, which is below p and the block read: nothing changes where the block read was above it wherever it is.
-fn below_row(
-    area: &mut [u16],
-    list: &[u16],
-    scratch: &mut [u16],
-    read: Read,
-    k: u16,
-    changes: Changes,
-) -> Changes
-    requires { ⌜ Fits read (length (now area)) × (2 ≤ length (now list)) × (read .width < length (now scratch)) × (0 < read .j) × (read .j < k) × (read .p < k) × (k ≤ read .n) × Small changes (2 ^ 48) ⌝ }
-    ensures grown { λ r. ⌜ Grown changes r (2 ^ 16) ⌝ }
-    ensures halfway { λ r. ⌜ ((left a : ℕ) (J : ℕ → ℕ) (L : ℕ → ℕ → ℕ) → a < k → Finds (now (list .entry)) read J L
-        → Halfway read left (a) (k) changes (now (area .entry)) J L → Halfway read left (a) (k - 1) r (now (area .exit)) J L) ⌝ }
-{
-    let at = ((k - 1) as usize) * read.width;
-    if is_below(area[at], list[0], list[1], k) {
-        return changes;
-    }
-    let more = merge_row(area, at, at, read.width, list, scratch, read.p, read.n);
-    with(changes, more)
-}
-
-// All of them, from the last row on. A block read that is at one place of all cards that have it was above them all.
+// Those below both, from the last one on. A block read that is at one place of all cards that have it was above them all.
 fn below(
     area: &mut [u16],
     list: &[u16],
@@ -134,10 +55,9 @@ fn below(
     bottom: u16,
     changes: Changes,
 ) -> Changes
-    requires { ⌜ Fits read (length (now area)) × (2 ≤ length (now list)) × (read .width < length (now scratch)) × (0 < read .j) × (read .j ≤ bottom) × ((read .p ≤ bottom) ⊎ (read .n ≤ bottom)) × (bottom ≤ read .n) × Small changes (2 ^ 40) ⌝ }
+    requires { ⌜ Ready read (now area) (now list) (now scratch) changes (2 ^ 40) × (0 < read .j) × (read .j ≤ bottom) × ((read .p ≤ bottom) ⊎ (read .n ≤ bottom)) × (bottom ≤ read .n) ⌝ }
     ensures grown { λ r. ⌜ Grown changes r (2 ^ 32) ⌝ }
-    ensures halfway { λ r. ⌜ ((left a : ℕ) (J : ℕ → ℕ) (L : ℕ → ℕ → ℕ) → a ≤ bottom → Finds (now (list .entry)) read J L
-        → Halfway read left (a) (read .n) changes (now (area .entry)) J L → Halfway read left (a) (bottom) r (now (area .exit)) J L) ⌝ }
+    ensures leads { λ r. ⌜ ((a : ℕ) → a ≤ bottom → Leads (now (list .entry)) read a (read .n) changes (now (area .entry)) a bottom r (now (area .exit))) ⌝ }
 {
     if list[0] == read.j {
         return changes;
@@ -151,32 +71,6 @@ fn below(
     sum
 }
 
-// The row of place k gets what was one place above it.
-fn down_row(
-    area: &mut [u16],
-    list: &[u16],
-    scratch: &mut [u16],
-    read: Read,
-    k: u16,
-    changes: Changes,
-) -> Changes
-    requires { ⌜ Fits read (length (now area)) × (2 ≤ length (now list)) × (read .width < length (now scratch)) × (read .p < k) × (k ≤ read .n) × ((read .j ≡ 0) ⊎ (k ≤ read .j)) × Small changes (2 ^ 48) ⌝ }
-    ensures grown { λ r. ⌜ Grown changes r (2 ^ 16) ⌝ }
-    ensures halfway { λ r. ⌜ ((left a : ℕ) (J : ℕ → ℕ) (L : ℕ → ℕ → ℕ) → a < read .p → Finds (now (list .entry)) read J L
-        → Halfway read left (a) (k) changes (now (area .entry)) J L → Halfway read left (a) (k - 1) r (now (area .exit)) J L) ⌝ }
-{
-    let at = ((k - 1) as usize) * read.width;
-    let from = at - read.width;
-    if move_nothing(area, from, at, read.width) {
-        return changes;
-    }
-    if lower_pair(area, from, at, read.width, k - 1) {
-        return changes;
-    }
-    let more = merge_row(area, from, at, read.width, list, scratch, read.p, read.n);
-    with(changes, more)
-}
-
 // All rows from the bottom one up to the one after p: from the last one on, so that no list is overwritten before it has moved.
 fn down(
     area: &mut [u16],
@@ -186,10 +80,9 @@ fn down(
     bottom: u16,
     changes: Changes,
 ) -> Changes
-    requires { ⌜ Fits read (length (now area)) × (2 ≤ length (now list)) × (read .width < length (now scratch)) × (read .p ≤ bottom) × (bottom ≤ read .n) × ((read .j ≡ 0) ⊎ (bottom ≤ read .j)) × Small changes (2 ^ 40) ⌝ }
+    requires { ⌜ Ready read (now area) (now list) (now scratch) changes (2 ^ 40) × (read .p ≤ bottom) × (bottom ≤ read .n) × ((read .j ≡ 0) ⊎ (bottom ≤ read .j)) ⌝ }
     ensures grown { λ r. ⌜ Grown changes r (2 ^ 32) ⌝ }
-    ensures halfway { λ r. ⌜ ((left a : ℕ) (J : ℕ → ℕ) (L : ℕ → ℕ → ℕ) → a < read .p → Finds (now (list .entry)) read J L
-        → Halfway read left (a) (bottom) changes (now (area .entry)) J L → Halfway read left (a) (read .p) r (now (area .exit)) J L) ⌝ }
+    ensures leads { λ r. ⌜ ((a : ℕ) → a < read .p → Leads (now (list .entry)) read a bottom changes (now (area .entry)) a (read .p) r (now (area .exit))) ⌝ }
 {
     let mut sum = changes;
     let mut k = bottom;
@@ -198,32 +91,6 @@ fn down(
         k -= 1;
     }
     sum
-}
-
-// The row of place k gets what was one place below it.
-fn up_row(
-    area: &mut [u16],
-    list: &[u16],
-    scratch: &mut [u16],
-    read: Read,
-    k: u16,
-    changes: Changes,
-) -> Changes
-    requires { ⌜ Fits read (length (now area)) × (2 ≤ length (now list)) × (read .width < length (now scratch)) × (0 < read .j) × (read .j ≤ k) × (k < read .p) × (k < read .n) × Small changes (2 ^ 48) ⌝ }
-    ensures grown { λ r. ⌜ Grown changes r (2 ^ 16) ⌝ }
-    ensures halfway { λ r. ⌜ ((left b : ℕ) (J : ℕ → ℕ) (L : ℕ → ℕ → ℕ) → k < b → b ≤ read .n → Finds (now (list .entry)) read J L
-        → Halfway read left (k - 1) (b) changes (now (area .entry)) J L → Halfway read left (k) (b) r (now (area .exit)) J L) ⌝ }
-{
-    let from = (k as usize) * read.width;
-    let at = from - read.width;
-    if move_nothing(area, from, at, read.width) {
-        return changes;
-    }
-    if raise_pair(area, from, at, read.width, k + 1, list[0], list[1]) {
-        return changes;
-    }
-    let more = merge_row(area, from, at, read.width, list, scratch, read.p, read.n);
-    with(changes, more)
 }
 
 // All rows from that of the block read to the one before the bottom one, from the first one on.
@@ -235,10 +102,9 @@ fn up(
     bottom: u16,
     changes: Changes,
 ) -> Changes
-    requires { ⌜ Fits read (length (now area)) × (2 ≤ length (now list)) × (read .width < length (now scratch)) × (0 < read .j) × (read .j ≤ bottom) × (bottom ≤ read .p) × (bottom ≤ read .n) × Small changes (2 ^ 40) ⌝ }
+    requires { ⌜ Ready read (now area) (now list) (now scratch) changes (2 ^ 40) × (0 < read .j) × (read .j ≤ bottom) × (bottom ≤ read .p) × (bottom ≤ read .n) ⌝ }
     ensures grown { λ r. ⌜ Grown changes r (2 ^ 32) ⌝ }
-    ensures halfway { λ r. ⌜ ((left : ℕ) (J : ℕ → ℕ) (L : ℕ → ℕ → ℕ) → Finds (now (list .entry)) read J L → Halfway read left (read .j - 1) (bottom) changes (now (area .entry)) J L
-        → Halfway read left (bottom - 1) (bottom) r (now (area .exit)) J L) ⌝ }
+    ensures leads { λ r. ⌜ Leads (now (list .entry)) read (read .j - 1) bottom changes (now (area .entry)) (bottom - 1) bottom r (now (area .exit)) ⌝ }
 {
     let mut sum = changes;
     let mut k = read.j;
@@ -257,34 +123,6 @@ fn bottom_of(n: u16, p: u16) -> u16
         return n;
     }
     p
-}
-
-// The last row that is left gets the block read, or nothing.
-fn own(area: &mut [u16], read: Read, changes: Changes) -> Changes
-    requires { ⌜ Fits read (length (now area)) × ((read .p ≤ read .n) ⊎ (0 < read .j)) × (read .j ≤ read .n) × Small changes (2 ^ 48) ⌝ }
-    ensures grown { λ r. ⌜ Grown changes r (2 ^ 16) ⌝ }
-    ensures halfway { λ r. ⌜ ((left : ℕ) (J : ℕ → ℕ) (L : ℕ → ℕ → ℕ) → Family L (read .n) → Halfway read left (min (read .p) (read .n) - 1) (min (read .p) (read .n)) changes (now (area .entry)) J L
-        → Halfway read left (min (read .p) (read .n)) (min (read .p) (read .n)) r (now (area .exit)) J L) ⌝ }
-{
-    if read.n < read.p {
-        clear(area, ((read.n - 1) as usize) * read.width, read.width);
-        return changes;
-    }
-    write_row(
-        area,
-        ((read.p - 1) as usize) * read.width,
-        read.width,
-        read.p,
-        read.p,
-    );
-    with(
-        changes,
-        Changes {
-            gained: 1,
-            lost: 0,
-            longest: 1,
-        },
-    )
 }
 
 // All rows: those above and below the ones that move, then these, and the one that is left.

@@ -1,44 +1,29 @@
 -- Row by row: the first rows up to the one before lo.
 use borrow.Author.Needs.{needs}
 use native.Mathlib.Omega.{arith}
-use mathlib.Core.Path.{_≡_}
-use Prim.Native.Nat.{_-_, _≤_}
-use Rattle.sizes.proofs.Turns.{Leads, leads-up, fits-kept, Turned, turned-none, turned-next, turned-small, turned-all}
+use Prim.Native.Nat.{_-_}
+use Rattle.sizes.proofs.Turns.{Rising, rising-none, rising-next, rising-all, turned-ready}
 use Rattle.sizes.proofs.sweeps.above.Statement.{statement}
 use Rattle.sizes.proofs.sweeps.above.Tie as tie
 
 abbrev Inv-loop : tie.InvT-loop
-Inv-loop area₀ list scratch₀ read lo sum₀ k₀ area scratch sum k =
-    (k₀ ≤ k) × (k ≤ lo) × Turned (k - k₀) area₀ scratch₀ area scratch sum₀ sum × Leads list read (k₀ - 1) (read .n) sum₀ area₀ (k - 1) (read .n) sum area
+Inv-loop area₀ list scratch₀ read lo sum₀ k₀ area scratch sum k = Rising list read k₀ lo (read .n) area₀ scratch₀ sum₀ area scratch sum k
 
 abbrev μ-loop : tie.MeasureT-loop
 μ-loop area₀ list scratch₀ read lo sum₀ k₀ area scratch sum k = lo - k
 
-loop-holds : tie.Need-loop-holds Inv-loop μ-loop
-loop-holds c = (omega arith, omega arith, turned-none _ _ _ _ (omega arith), λ left J L finds half. half)
-
 above-row-requires : tie.Need-above-row-requires Inv-loop μ-loop
 above-row-requires c κs =
     let pre = c .before .before .before .before .before .before .before .pre in
-    let turned = c .before .before .before .loop .inv .2 in
-    (fits-kept (turned .room) (pre .0), omega arith, omega (arith, turned .spare), omega arith, omega arith, omega arith, pre .5, omega arith, turned-small turned (omega (arith, pre .0 .narrow)) (omega arith, omega arith))
+    let rising = c .before .before .before .loop .inv in
+    (turned-ready (rising .turned) (c .before .before .before .before .before .before .before .args .list .now) (omega arith) (pre .0), omega (arith, rising .from), omega arith, omega arith, pre .3, omega arith)
 
 loop-again : tie.Need-loop-again Inv-loop μ-loop
 loop-again c =
-    let at = c .before .before .before .before .before .before .before .before .before .before .before .before .args in
+    let pre = c .before .before .before .before .before .before .before .before .before .before .before .before .pre in
     let lp = c .before .before .before .before .before .before .before .before .loop in
-    let row = c .before .before .before .before .above-row in (
-      omega (arith, lp .inv .0),
-      omega arith,
-      turned-next (lp .inv .2) _ _ _ _ (row .kept .0) (row .kept .1 .1 .0) (row .ensures .0) (omega (arith, lp .inv .0)),
-      leads-up (at .list .now) (at .read) _ _ (lp .k) _ _ _ _ _ _ (lp .inv .3) (λ left J L. row .ensures .1 left (at .read .n) J L (omega arith) (omega arith)),
-    )
-
-returns : tie.Need-returns Inv-loop μ-loop
-returns c =
-    let lp = c .before .loop in
-    let e : lp .k ≡ c .before .before .before .before .before .args .lo = omega (arith, lp .inv .1) in
-    (turned-all (lp .inv .2) (omega (arith, c .before .before .before .before .before .pre .0 .narrow)), rw e at (lp .inv .3))
+    let row = c .before .before .before .before .above-row in
+    rising-next (lp .inv) (lp .k) _ _ _ (pre .0 .0 .read-at) (omega (arith, lp .inv .from)) (omega arith) (omega arith) (omega arith) (omega arith) (record { room = row .kept .0; spare = row .kept .1 .1 .0; grown = row .ensures .0 }) (row .ensures .1)
 
 pub above-spec : {M : Type 1} → statement M
 above-spec =
@@ -46,11 +31,11 @@ above-spec =
     (tie.spec
     Inv-loop
     μ-loop
-    loop-holds
+    (λ c. rising-none _ _ _ _ _ _ _ _ (omega arith))
     above-row-requires
     (λ c. search needs)
     (λ c. search needs)
     loop-again
-    (λ c. c .before .loop .inv .2 .room)
-    (λ c. c .before .loop .inv .2 .spare)
-    returns)
+    (λ c. c .before .loop .inv .turned .room)
+    (λ c. c .before .loop .inv .turned .spare)
+    (λ c. rising-all (c .before .loop .inv) (omega arith) (omega (arith, c .before .before .before .before .before .pre .0 .0 .narrow)) (omega arith)))

@@ -1,45 +1,35 @@
 -- Row by row: from the bottom up to the one after p.
 use borrow.Author.Needs.{needs}
 use native.Mathlib.Omega.{arith}
-use mathlib.Core.Path.{_≡_}
 use mathlib.Core.Logic.{inl, inr, ⊎-elim}
-use Prim.Native.Nat.{ℕ, _-_, _≤_, _<_}
-use Rattle.sizes.proofs.Turns.{Leads, fits-kept, Turned, turned-none, turned-next, turned-small, turned-all}
+use Prim.Native.Nat.{_-_}
+use Rattle.sizes.proofs.Turns.{Sinking, sinking-none, sinking-next, sinking-all, turned-ready}
 use Rattle.sizes.proofs.sweeps.down.Statement.{statement}
 use Rattle.sizes.proofs.sweeps.down.Tie as tie
 
 abbrev Inv-loop : tie.InvT-loop
-Inv-loop area₀ list scratch₀ read bottom sum₀ k₀ area scratch sum k =
-    (read .p ≤ k) × (k ≤ k₀) × Turned (k₀ - k) area₀ scratch₀ area scratch sum₀ sum × ((a : ℕ) → a < read .p → Leads list read a k₀ sum₀ area₀ a k sum area)
+Inv-loop area₀ list scratch₀ read bottom sum₀ k₀ area scratch sum k = Sinking list read k₀ (read .p) (read .p - 1) area₀ scratch₀ sum₀ area scratch sum k
 
 abbrev μ-loop : tie.MeasureT-loop
 μ-loop area₀ list scratch₀ read bottom sum₀ k₀ area scratch sum k = k
 
-loop-holds : tie.Need-loop-holds Inv-loop μ-loop
-loop-holds c = (omega arith, omega arith, turned-none _ _ _ _ (omega arith), λ a h left J L finds half. half)
-
 down-row-requires : tie.Need-down-row-requires Inv-loop μ-loop
 down-row-requires c κs =
     let pre = c .before .before .before .before .before .before .before .before .pre in
-    let turned = c .before .before .before .before .loop .inv .2 in
-    (fits-kept (turned .room) (pre .0), omega arith, omega (arith, turned .spare), omega arith, omega arith, ⊎-elim (λ z. inl z) (λ h. inr (omega arith)) (pre .5), turned-small turned (omega (arith, pre .0 .narrow)) (omega arith, omega arith))
+    let sinking = c .before .before .before .before .loop .inv in
+    (turned-ready (sinking .turned) (c .before .before .before .before .before .before .before .before .args .list .now) (omega arith) (pre .0), omega arith, omega (arith, sinking .from), ⊎-elim (λ z. inl z) (λ h. inr (omega (arith, sinking .from))) (pre .3))
 
 loop-again : tie.Need-loop-again Inv-loop μ-loop
 loop-again c =
+    let pre = c .before .before .before .before .before .before .before .before .before .before .before .before .before .pre in
     let lp = c .before .before .before .before .before .before .before .before .before .loop in
-    let row = c .before .before .before .before .down-row in (
-      omega arith,
-      omega (arith, lp .inv .1),
-      turned-next (lp .inv .2) _ _ _ _ (row .kept .0) (row .kept .1 .1 .0) (row .ensures .0) (omega (arith, lp .inv .1)),
-      λ a h left J L finds half. row .ensures .1 left a J L (omega arith) finds (lp .inv .3 a h left J L finds half),
-    )
+    let row = c .before .before .before .before .down-row in
+    sinking-next (lp .inv) (lp .k - 1) _ _ _ (pre .0 .0 .read-at) (omega (arith, lp .inv .from)) (omega arith) (omega (arith, pre .0 .0 .read-at)) (omega arith) (record { room = row .kept .0; spare = row .kept .1 .1 .0; grown = row .ensures .0 }) (row .ensures .1)
 
 returns : tie.Need-returns Inv-loop μ-loop
 returns c =
-    let at = c .before .before .before .before .before .before .args in
-    let lp = c .before .before .loop in
-    let e : lp .k ≡ at .read .p = omega (arith, lp .inv .0) in
-    (turned-all (lp .inv .2) (omega (arith, c .before .before .before .before .before .before .pre .0 .narrow)), λ left a J L h. rw e at (lp .inv .3 a h left J L))
+    let all = sinking-all (c .before .before .loop .inv) (omega (arith, c .before .before .before .before .before .before .pre .0 .0 .narrow)) (omega arith) in
+    (all .0, λ a h. all .1 a (omega arith))
 
 pub down-spec : {M : Type 1} → statement M
 down-spec =
@@ -47,11 +37,11 @@ down-spec =
     (tie.spec
     Inv-loop
     μ-loop
-    loop-holds
+    (λ c. sinking-none _ _ _ _ _ _ _ _ (omega arith))
     down-row-requires
     (λ c. search needs)
     (λ c. search needs)
     loop-again
-    (λ c. c .before .before .loop .inv .2 .room)
-    (λ c. c .before .before .loop .inv .2 .spare)
+    (λ c. c .before .before .loop .inv .turned .room)
+    (λ c. c .before .before .loop .inv .turned .spare)
     returns)

@@ -15,7 +15,7 @@ use Rattle.sizes.proofs.RowLaws.{base-le}
 use Rattle.sizes.proofs.RowCounts.{stretches-none}
 use Rattle.sizes.proofs.Exchanges.{sum-same, most-same, most-under, exchange}
 use Rattle.sizes.proofs.Clamps.{clamped, bypassed}
-use Rattle.sizes.proofs.RowSteps.{found-finds}
+use Rattle.sizes.proofs.Turns.{found-finds}
 use Rattle.sizes.proofs.sweeps.renew_all.Statement.{statement}
 use Rattle.sizes.proofs.sweeps.renew_all.Tie as tie
 

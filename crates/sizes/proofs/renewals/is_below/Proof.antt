@@ -1,9 +1,9 @@
--- `sizes::sweeps::is_below` meets its contract: each way out says what it has tested.
+-- `sizes::renewals::is_below` meets its contract: each way out says what it has tested.
 use native.Mathlib.Omega.{arith}
 use mathlib.Core.Logic.{inl, inr}
 use borrow.Author.Tests.{ltb-true}
-use Rattle.sizes.proofs.sweeps.is_below.Statement.{statement}
-use Rattle.sizes.proofs.sweeps.is_below.Tie as tie
+use Rattle.sizes.proofs.renewals.is_below.Statement.{statement}
+use Rattle.sizes.proofs.renewals.is_below.Tie as tie
 
 returns : tie.Need-returns
 returns c t = inl (c .if1 .taken)
