@@ -15,6 +15,7 @@ pub mod RowSteps
 pub mod Stills
 pub mod Turns
 pub mod Singles
+pub mod Raisings
 pub mod Families
 pub mod NewPlaces
 pub mod NewTotals

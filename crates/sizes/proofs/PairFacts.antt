@@ -11,7 +11,7 @@ use Rattle.card.specs.Stretches.{starts, stretches}
 use Rattle.card.specs.Falling.{Falling}
 use Rattle.sizes.specs.Moves.{own}
 use Rattle.sizes.specs.Rows.{pairs, rowLength}
-use Rattle.sizes.specs.Lists.{Holds, Ends}
+use Rattle.sizes.specs.Lists.{Ends}
 use Rattle.sizes.proofs.PairLaws.{level-pairs, start-s, lt-cases, eq-cases, pairs-cases, pairs-zero, prefix, room-le, start-at}
 
 -- two entries for each stretch
@@ -67,8 +67,8 @@ entries R (suc n) x h =
 pub in-list : (R : ℕ → ℕ) (n i : ℕ) → 0 < getD (pairs R n) i 0 → i < length (pairs R n)
 in-list R n i h = ⊎-elim (λ lt. lt) (λ ge. absurd (omega (arith, List·getD-eq-default (pairs R n) 0 {n = i} ge))) (lt-cases i (length (pairs R n)))
 
--- What holds a list has only zeros after the first.
-pub ends : (xs : List ℕ) (R : ℕ → ℕ) (n q : ℕ) → Holds xs R n → Ends xs q
+-- What holds a list from q on has only zeros after the first from there.
+pub ends : (xs : List ℕ) (R : ℕ → ℕ) (n q : ℕ) → ((x : ℕ) → q ≤ x → getD xs x 0 ≡ getD (pairs R n) x 0) → Ends xs q
 ends xs R n q h x y hq hy e =
-    let hx : length (pairs R n) ≤ x = ⊎-elim (λ lt. absurd (omega (arith, e, h x, entries R n x lt))) (λ ge. ge) (lt-cases x (length (pairs R n))) in
-    h y ∙ List·getD-eq-default (pairs R n) 0 {n = y} (omega arith)
+    let hx : length (pairs R n) ≤ x = ⊎-elim (λ lt. absurd (omega (arith, e, h x hq, entries R n x lt))) (λ ge. ge) (lt-cases x (length (pairs R n))) in
+    h y (omega arith) ∙ List·getD-eq-default (pairs R n) 0 {n = y} (omega arith)

@@ -58,6 +58,14 @@ row-first area a w n R h s = let e : a ≡ a + 0 = omega arith in ap (λ (z : �
 pub never : {X : Type 0} → false ≡ true → X
 never e = absurd (omega (arith, ap bit e))
 
+-- What changes the start of a part, and then the part, changes nothing else.
+pub kept-twice : (area mid last : List ℕ) (a v w : ℕ) → v ≤ w → Kept area mid a v → Kept mid last a w → Kept area last a w
+kept-twice area mid last a v w le first second = record {
+  size = second .size ∙ first .size;
+  below = λ x h. second .below x h ∙ first .below x h;
+  above = λ x h. second .above x h ∙ first .above x (omega arith);
+}
+
 -- What writes nothing keeps all.
 pub untouched : (area : List ℕ) (a w : ℕ) → Kept area area a w
 untouched area a w = record { size = refl; below = λ x h. refl; above = λ x h. refl }

@@ -45,13 +45,16 @@ mid-at xs a k q h = getD-take k (drop a xs) q 0 h ∙ getD-drop a xs q 0
 pub mid-length : (xs : List ℕ) (a w k : ℕ) → a + w ≤ length xs → k ≡ w → length (midOf a k xs) ≡ w
 mid-length xs a w k h e = length-take-le k (drop a xs) (omega (arith, length-drop a xs)) ∙ e
 
--- a row, lent as a part
-module _ (xs : List ℕ) (a w k n : ℕ) (R : ℕ → ℕ) (fit : a + w ≤ length xs) (ek : k ≡ w) (ew : w ≡ rowLength n) (good : Falling R) (row : Row xs a w (pairs R n)) where
-  pub mid-holds : Holds (midOf a k xs) R n
-  mid-holds q =
-      ⊎-elim (λ lt. mid-at xs a k q (omega arith) ∙ row q lt)
-      (λ ge. List·getD-eq-default (midOf a k xs) 0 {n = q} (omega (arith, mid-length xs a w k fit ek)) ∙ sym (List·getD-eq-default (pairs R n) 0 {n = q} (omega (arith, pairs-fit R n good))))
-      (lt-cases q w)
+-- a row that holds a list from q on, lent as a part
+module _ (xs : List ℕ) (a w k n : ℕ) (R : ℕ → ℕ) (fit : a + w ≤ length xs) (ek : k ≡ w) (ew : w ≡ rowLength n) (good : Falling R) where
+  mid-entry : (x : ℕ) → (x < w → getD xs (a + x) 0 ≡ getD (pairs R n) x 0) → getD (midOf a k xs) x 0 ≡ getD (pairs R n) x 0
+  mid-entry x row =
+      ⊎-elim (λ lt. mid-at xs a k x (omega arith) ∙ row lt)
+      (λ ge. List·getD-eq-default (midOf a k xs) 0 {n = x} (omega (arith, mid-length xs a w k fit ek)) ∙ sym (List·getD-eq-default (pairs R n) 0 {n = x} (omega (arith, pairs-fit R n good))))
+      (lt-cases x w)
 
-  pub mid-ends : Ends (midOf a k xs) 0
-  mid-ends = ends (midOf a k xs) R n 0 mid-holds
+  pub mid-holds : Row xs a w (pairs R n) → Holds (midOf a k xs) R n
+  mid-holds row q = mid-entry q (row q)
+
+  pub mid-ends : (q : ℕ) → ((x : ℕ) → q ≤ x → x < w → getD xs (a + x) 0 ≡ getD (pairs R n) x 0) → Ends (midOf a k xs) q
+  mid-ends q row = ends (midOf a k xs) R n q (λ x h. mid-entry x (row x h))

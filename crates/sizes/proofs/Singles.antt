@@ -3,7 +3,7 @@ use mathlib.Core.Path.{_≡_, sym, ap, _∙_}
 use mathlib.Core.Logic.{_⊎_, ⊎-elim}
 use mathlib.Core.Bool.{cond}
 use mathlib.Core.List.{List, [], _∷_}
-use Prim.Native.Nat.{ℕ, _+_, _-_, _≤_, _<_}
+use Prim.Native.Nat.{ℕ, _+_, _≤_, _<_}
 use native.Mathlib.Omega.{arith}
 use lib.Dec.{eqb}
 use lib.ListN.{length, getD}
@@ -83,19 +83,3 @@ module _ (J L : ℕ → ℕ) (p n j c l : ℕ) (pos : 0 < p) (fall : Falling J) 
     where
       here : (m : ℕ) → c ≤ m → m ≤ n → after J p L m ≡ putIn p m l
       here m a b = after-high m l a b (taken-none h m b)
-
-  -- it goes one place up the card
-  pub pairs-raised : (x y : ℕ) → x ≡ getD (pairs J n) 0 0 → y ≡ getD (pairs J n) 1 0 → 0 < j → x ≤ c → y < l → l ≤ p → pairs (after J p L) n ≡ c ∷ (l - 1) ∷ []
-  pairs-raised x y ex ey pj xc yl lp =
-      pairs-one (after J p L) n c (l - 1) (one .some) (one .in-sizes) (omega (arith, above c (omega arith) (one .in-sizes))) after-low here
-    where
-      above : (m : ℕ) → c ≤ m → m ≤ n → (0 < J m) × (J m < l)
-      above m a b =
-          let d = first-bound J n n fall (omega arith) (omega arith) in
-          let f = falls J fall (getD (pairs J n) 0 0) m (omega arith) (omega (arith, d .2, d .3)) in
-          omega (arith, f .0, f .1, d .2)
-
-      here : (m : ℕ) → c ≤ m → m ≤ n → after J p L m ≡ l - 1
-      here m a b =
-          let t : takenOut (J m) l ≡ l - 1 = ⊎-elim (λ w. absurd (omega (arith, above m a b))) (⊎-elim (λ w. w .2) (λ w. absurd (omega (arith, above m a b)))) (taken-cases (J m) l) in
-          after-high m (l - 1) a b t ∙ put-low p m (l - 1) (omega (arith, one .place))

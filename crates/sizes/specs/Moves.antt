@@ -1,7 +1,7 @@
 -- Where blocks stand after a read, at every size at once: what the crate's own functions promise each other.
-use Prim.Native.Nat.{ℕ, _+_, _-_}
+use Prim.Native.Nat.{ℕ, _+_, _-_, _≤_}
 use mathlib.Core.Path.{_≡_}
-use mathlib.Core.Logic.{_⊎_}
+use mathlib.Core.Logic.{_⊎_, _≢_}
 use mathlib.Core.Bool.{cond}
 use lib.Dec.{ltb, leb, eqb}
 use Rattle.card.specs.Falling.{Falling}
@@ -17,6 +17,10 @@ putIn p m l = cond (ltb m p) l (cond (ltb l p) l (cond (ltb l m) (l + 1) 0))
 -- the places of another block after a read: J are those of the block that is read, L the other's
 unfoldable pub after : (ℕ → ℕ) → ℕ → (ℕ → ℕ) → ℕ → ℕ
 after J p L m = putIn p m (takenOut (J m) (L m))
+
+-- R is S one place nearer the top of every card that has it, where it is nowhere at the top
+abbrev pub Raised : (R S : ℕ → ℕ) → ℕ → Type 0
+Raised R S n = (m : ℕ) → m ≤ n → (R m ≡ S m - 1) × (S m ≢ 1)
 
 -- those of the block that was read
 unfoldable pub own : ℕ → ℕ → ℕ

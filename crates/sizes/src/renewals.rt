@@ -1,11 +1,11 @@
 // The row of one place after a read: it stays, or its list goes one place up or down the card, or the block read is put in.
 use crate::numbers::larger;
 use crate::rows::Changes;
-use crate::rows::clear;
+use crate::rows::close;
 use crate::rows::lower_pair;
 use crate::rows::merge_row;
 use crate::rows::move_nothing;
-use crate::rows::raise_pair;
+use crate::rows::raise_list;
 use crate::rows::write_row;
 ghost use mathlib.Core.Path.{_≡_};
 ghost use mathlib.Core.Bool.{true};
@@ -134,7 +134,7 @@ pub fn up_row(
     if move_nothing(area, from, at, read.width) {
         return changes;
     }
-    if raise_pair(area, from, at, read.width, k + 1, list[0], list[1]) {
+    if raise_list(area, from, at, read.width, k + 1, read.p, list[0], list[1]) {
         return changes;
     }
     let more = merge_row(area, from, at, read.width, list, scratch, read.p, read.n);
@@ -149,7 +149,7 @@ pub fn own(area: &mut [u16], read: Read, changes: Changes) -> Changes
         → Renewed read J L (min (read .p) (read .n)) changes r (now (area .entry)) (now (area .exit))) ⌝ }
 {
     if read.n < read.p {
-        clear(area, ((read.n - 1) as usize) * read.width, read.width);
+        close(area, ((read.n - 1) as usize) * read.width, read.width, 0);
         return changes;
     }
     write_row(

@@ -12,7 +12,7 @@ ghost use lib.Dec.{eqb};
 ghost use lib.ListN.{length, getD};
 ghost use Rattle.sizes.specs.Rows.{pairs, rowLength, Row};
 ghost use Rattle.card.specs.Falling.{Falling};
-ghost use Rattle.sizes.specs.Moves.{after};
+ghost use Rattle.sizes.specs.Moves.{after, Raised};
 ghost use Rattle.sizes.specs.Lists.{Begins};
 ghost use Rattle.sizes.specs.Renewals.{Kept, Carried, CarriedNone, Merged};
 ghost use Rattle.card.specs.Stretches.{stretches};
@@ -24,7 +24,7 @@ pub struct Changes {
     pub longest: usize,
 }
 
-// The same of the row from an index of the area on.
+// Copies the list of the row from an index on, and a zero after it; answers how many entries it has.
 fn copy_row(area: &[u16], at: usize, width: usize, out: &mut [u16]) -> usize
     requires { ⌜ (at + width ≤ length (now area)) × (width < length (now out)) ⌝ }
     ensures range { λ x. ⌜ x ≤ width ⌝ }
@@ -82,14 +82,15 @@ pub fn write_row(area: &mut [u16], at: usize, width: usize, first: u16, place: u
     write_pair(&mut area[at..end], first, place);
 }
 
-// The row from an index on gets no stretch.
-pub fn clear(area: &mut [u16], at: usize, width: usize)
+// The row from an index on ends after q entries.
+pub fn close(area: &mut [u16], at: usize, width: usize, q: usize)
     requires { ⌜ at + width ≤ length (now area) ⌝ }
-    ensures kept { λ _. ⌜ Kept (now (area .entry)) (now (area .exit)) at width ⌝ }
-    ensures holds { λ _. ⌜ ((T : ℕ → ℕ) (n : ℕ) → width ≡ rowLength n → Falling T → Row (now (area .entry)) at width (pairs T n) → (q : ℕ) → q < width → getD (now (area .exit)) (at + q) 0 ≡ 0) ⌝ }
+    ensures kept { λ _. ⌜ Kept (now (area .entry)) (now (area .exit)) at width × ((x : ℕ) → x < q → x < width → getD (now (area .exit)) (at + x) 0 ≡ getD (now (area .entry)) (at + x) 0) ⌝ }
+    ensures closed { λ _. ⌜ ((T : ℕ → ℕ) (n : ℕ) → width ≡ rowLength n → Falling T → ((x : ℕ) → q ≤ x → x < width → getD (now (area .entry)) (at + x) 0 ≡ getD (pairs T n) x 0)
+        → (x : ℕ) → q ≤ x → x < width → getD (now (area .exit)) (at + x) 0 ≡ 0) ⌝ }
 {
     let end = at + width;
-    fill(&mut area[at..end], 0);
+    fill(&mut area[at..end], q);
 }
 
 // A row with no stretch goes to another as it is; answers whether it was one.
@@ -101,7 +102,7 @@ pub fn move_nothing(area: &mut [u16], from: usize, at: usize, width: usize) -> b
     if 0 < area[from] {
         return false;
     }
-    clear(area, at, width);
+    close(area, at, width, 0);
     true
 }
 
@@ -131,32 +132,54 @@ pub fn lower_pair(area: &mut [u16], from: usize, at: usize, width: usize, s: u16
     true
 }
 
-// The same one place up, where the block read, whose list begins with start and place, was above it wherever it is.
-pub fn raise_pair(
+// The list of a row goes to the row before, each place one less; answers how many entries it has.
+fn write_raised(area: &mut [u16], from: usize, at: usize, width: usize) -> usize
+    requires { ⌜ (from + width ≤ length (now area)) × (at + width ≤ from) ⌝ }
+    ensures kept { λ x. ⌜ (x ≤ width) × Kept (now (area .entry)) (now (area .exit)) at x ⌝ }
+    ensures raised { λ x. ⌜ ((R S : ℕ → ℕ) (n : ℕ) → width ≡ rowLength n → Falling S → Raised R S n → Row (now (area .entry)) from width (pairs S n)
+        → (x ≡ length (pairs R n)) × ((q : ℕ) → q < x → getD (now (area .exit)) (at + q) 0 ≡ getD (pairs R n) q 0)) ⌝ }
+{
+    let mut h = 0;
+    while 2 * h + 1 < width {
+        let i = 2 * h;
+        let place = area[from + i + 1];
+        if place == 0 {
+            return i;
+        }
+        area[at + i] = area[from + i];
+        area[at + i + 1] = place - 1;
+        h += 1;
+    }
+    2 * h
+}
+
+// The list of place s goes one place up the card as it is, where none of its places is below p and the block read, whose list begins with start and place, was above it wherever it is; answers whether it did.
+pub fn raise_list(
     area: &mut [u16],
     from: usize,
     at: usize,
     width: usize,
     s: u16,
+    p: u16,
     start: u16,
     place: u16,
 ) -> bool
-    requires { ⌜ (2 ≤ width) × (from + width ≤ length (now area)) × (at + width ≤ length (now area)) × (0 < s) ⌝ }
+    requires { ⌜ (2 ≤ width) × (from + width ≤ length (now area)) × (at + width ≤ from) ⌝ }
     ensures kept { λ r. ⌜ Kept (now (area .entry)) (now (area .exit)) at width × (r ≡ false → now (area .exit) ≡ now (area .entry)) ⌝ }
-    ensures moved { λ r. ⌜ (r ≡ true → (n p j : ℕ) (J S T : ℕ → ℕ) → width ≡ rowLength n → 0 < p → s ≤ p → Falling J → Falling S → Falling T → S n ≡ s → j ≡ J n → 0 < j
+    ensures moved { λ r. ⌜ (r ≡ true → (n j : ℕ) (J S T : ℕ → ℕ) → width ≡ rowLength n → 0 < p → Falling J → Falling S → Falling T → S n ≡ s → j ≡ J n → 0 < j
         → start ≡ getD (pairs J n) 0 0 → place ≡ getD (pairs J n) 1 0 → Carried (now (area .entry)) (now (area .exit)) from at width n p J S T) ⌝ }
 {
-    if area[from + 1] != s {
-        return false;
-    }
     if s <= place {
         return false;
     }
-    let first = area[from];
-    if first < start {
+    if area[from] < start {
         return false;
     }
-    write_row(area, at, width, first, s - 1);
+    if p < area[from + 1] {
+        return false;
+    }
+    let count = write_raised(area, from, at, width);
+    close(area, at, width, count);
     true
 }
 

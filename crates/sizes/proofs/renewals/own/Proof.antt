@@ -16,12 +16,12 @@ returns c =
     let at = c .before .before .before .before .before .before .before .before .before .args in
     let pre = c .before .before .before .before .before .before .before .before .before .pre in
     let n = at .read .n in
-    let cl = c .before .before .clear .ensures in
+    let cl = c .before .before .close .ensures in
     let past : n < at .read .p = c .before .before .before .before .before .before .if1 .taken in
     let j : 0 < at .read .j = ⊎-elim (λ z. absurd (omega arith)) (λ z. z) (pre .1) in
     let e : min (at .read .p) n ≡ n = omega arith in (
       (omega arith, omega arith),
-      λ J L fam was. rw e (emptied-row (at .read) J L (at .changes) (at .area .now) _ (pre .0) past j (pre .2) fam (cl .0) (cl .1 (L n) n (pre .0 .wide) (fam .good n) (rw e at was))),
+      λ J L fam was. rw e (emptied-row (at .read) J L (at .changes) (at .area .now) _ (pre .0) past j (pre .2) fam (cl .0 .0) (λ q. cl .1 (L n) n (pre .0 .wide) (fam .good n) (λ x _. (rw e at was) x) q (omega arith))),
     )
 
 returns-2 : tie.Need-returns-2

@@ -19,12 +19,12 @@ returns-2 : tie.Need-returns-2
 returns-2 c =
     let at = c .before .before .before .before .before .before .before .args in
     let pre = c .before .before .before .before .before .before .before .pre in
-    let clear = c .before .before .clear .ensures in (
-      (clear .0, λ e. never (sym e)),
+    let closed = c .before .before .close .ensures in (
+      (closed .0 .0, λ e. never (sym e)),
       λ _ n p J S T ew pos gt some gs src old.
           let none = nowhere S n gs some (omega (arith, row-first (at .area .now) (at .from) (at .width) n S (omega arith) src, c .before .before .before .before .if1 .left)) in
           let gone = after-none J p S pos none in (
-            λ q hq. clear .1 T n ew gt old q hq ∙ sym (ap (λ (l : List ℕ). getD l q 0) (pairs-none (after J p S) n gone)),
+            λ q hq. closed .1 T n ew gt (λ x _. old x) q (omega arith) hq ∙ sym (ap (λ (l : List ℕ). getD l q 0) (pairs-none (after J p S) n gone)),
             stretches-none (after J p S) n gone ∙ sym (stretches-none S n none),
           ),
     )

@@ -16,7 +16,7 @@ returns c =
     let ek : at .at + at .width - at .at ≡ at .width = omega arith in
     let len : length (me .last .0) ≡ at .width = me .kept .0 ∙ mid-length (at .area .now) (at .at) (at .width) _ (pre .1) ek in (
       put-kept (at .area .now) (me .last .0) (at .at) (at .width) _ (pre .1) ek len,
-      λ R T n ew gt er sl q hq. put-within (at .area .now) (me .last .0) (at .at) (at .width) _ (pre .1) ek len q hq ∙ me .ensures R n er (mid-ends (at .area .now) (at .at) (at .width) _ n T (pre .1) ek ew gt sl) q,
+      λ R T n ew gt er sl q hq. put-within (at .area .now) (me .last .0) (at .at) (at .width) _ (pre .1) ek len q hq ∙ me .ensures R n er (mid-ends (at .area .now) (at .at) (at .width) _ n T (pre .1) ek ew gt 0 (λ x _. sl x)) q,
     )
 
 pub write-row-spec : {M : Type 1} → statement M

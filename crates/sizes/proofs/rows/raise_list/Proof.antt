@@ -1,0 +1,57 @@
+-- A list that goes up as it is, and zeros where the row held a longer one.
+use borrow.Author.Needs.{needs}
+use native.Mathlib.Omega.{arith}
+use mathlib.Core.Path.{sym, _∙_}
+use lib.ListN.{getD, List·getD-eq-default}
+use Prim.Native.Nat.{_+_}
+use Rattle.card.proofs.Tests.{by-lt}
+use Rattle.sizes.specs.Moves.{after}
+use Rattle.sizes.specs.Rows.{pairs}
+use Rattle.sizes.proofs.RowLaws.{never, unmoved, row-first, kept-twice}
+use Rattle.sizes.proofs.Raisings.{raised-after, raised-stretches}
+use Rattle.sizes.proofs.rows.raise_list.Statement.{statement}
+use Rattle.sizes.proofs.rows.raise_list.Tie as tie
+
+returns : tie.Need-returns
+returns c = unmoved _ _ _
+
+returns-2 : tie.Need-returns-2
+returns-2 c = unmoved _ _ _
+
+returns-3 : tie.Need-returns-3
+returns-3 c = unmoved _ _ _
+
+returns-4 : tie.Need-returns-4
+returns-4 c =
+    let at = c .before .before .before .before .before .before .before .before .before .before .before .before .before .before .args in
+    let pre = c .before .before .before .before .before .before .before .before .before .before .before .before .before .before .pre in
+    let write = c .before .before .before .before .before .before .write-raised in
+    let close = c .before .before .close in (
+      (kept-twice _ _ _ (at .at) (write .result) (at .width) (write .ensures .0 .0) (write .ensures .0 .1) (close .ensures .0 .0), λ e. never (sym e)),
+      λ _ n j J S T ew pos gj gs gt es ej some estart eplace src old.
+          let up = raised-after J S (at .p) n j (at .s) (at .start) (at .place) (getD (at .area .now) (at .from) 0) (getD (at .area .now) (at .from + 1) 0) pos gj gs es ej some estart eplace
+          (row-first (at .area .now) (at .from) (at .width) n S (omega arith) src) (src 1 (omega arith)) (omega (arith, c .before .before .before .before .before .before .before .before .before .before .before .before .if1 .left)) (c .before .before .before .before .before .before .before .before .before .before .if2 .left) (c .before .before .before .before .before .before .before .before .if3 .left) in
+          let new = write .ensures .1 (after J (at .p) S) S n ew gs up src in (
+            λ q hq. by-lt q (write .result)
+                (λ lt. close .ensures .0 .1 q lt hq ∙ new .1 q lt)
+                (λ ge. close .ensures .1 T n ew gt (λ x le h. write .ensures .0 .1 .above (at .at + x) (omega arith) ∙ old x h) q ge hq ∙ sym (List·getD-eq-default (pairs (after J (at .p) S) n) 0 {n = q} (omega (arith, new .0)))),
+            raised-stretches (after J (at .p) S) S n up,
+          ),
+    )
+
+pub raise-list-spec : {M : Type 1} → statement M
+raise-list-spec =
+    tie.close
+    (tie.spec
+    returns
+    (λ c. search needs)
+    (λ c. search needs)
+    returns-2
+    (λ c. search needs)
+    (λ c. search needs)
+    (λ c. search needs)
+    returns-3
+    (λ c κs. search needs)
+    (λ c κs. omega (arith, c .before .before .before .write-raised .kept .0))
+    (λ c. search needs)
+    returns-4)
