@@ -4,9 +4,9 @@ use mathlib.Core.List.{List}
 use Prim.Native.Nat.{ℕ, _+_, _-_, _*_, _^_, _≤_, _<_, min}
 use native.Mathlib.Omega.{arith}
 use lib.ListN.{length}
-use Rattle.sizes.specs.Moves.{Family, newOf}
+use Rattle.sizes.specs.Moves.{Family}
 use Rattle.sizes.specs.Renewals.{Fits, Ready, Finds, Renewed, Renews, RowAt, Grown}
-use Rattle.sizes.specs.Sweeps.{Found, Halfway, Leads, RowsOf, AllCounted}
+use Rattle.sizes.specs.Sweeps.{Found, Halfway, Leads, AllRenewed, Fresh}
 use Rattle.sizes.specs.declared.rows.Changes.{Changes}
 use Rattle.sizes.specs.declared.renewals.Read.{Read}
 use Rattle.sizes.proofs.Halfways.{halfway-none, halfway-all, halfway-up, halfway-down}
@@ -16,16 +16,15 @@ pub found-finds : (read : Read) (list area : List ℕ) (J : ℕ → ℕ) (L : �
 found-finds read list area J L f = record { falling = f .falling; family = f .family; there = f .there; begins = λ q h. f .listed q }
 
 -- all rows from nothing done on, with the last one that is left
-pub leads-all : (list : List ℕ) (read : Read) (lost x : ℕ) (changes sum next : Changes) (area mid last : List ℕ) → 0 < read .p → 0 < read .n → changes .gained ≡ 0 → changes .lost ≡ lost → changes .longest ≡ 0 → x ≡ min (read .p) (read .n)
+pub leads-all : (list : List ℕ) (read : Read) (x : ℕ) (changes sum next : Changes) (area mid last : List ℕ) → 0 < read .p → 0 < read .n → Fresh changes → x ≡ min (read .p) (read .n)
     → Leads list read 0 (read .n) changes area (x - 1) x sum mid
     → ((J : ℕ → ℕ) (L : ℕ → ℕ → ℕ) → Family L (read .n) → RowAt mid read (min (read .p) (read .n)) (L (min (read .p) (read .n))) → Renewed read J L (min (read .p) (read .n)) sum next mid last)
-    → (J : ℕ → ℕ) (L : ℕ → ℕ → ℕ) → Finds list read J L → RowsOf area (read .width) (read .n) L
-    → RowsOf last (read .width) (read .n) (newOf J (read .p) (read .j) L) × AllCounted (read .n) (read .p) (read .j) lost (next .gained) (next .lost) (next .longest) J L
-leads-all list read lost x changes sum next area mid last pos some g l m e leads own J L finds rows =
-    let all = (rw e at leads) lost J L finds (halfway-none read lost J L changes area g l m rows) in
+    → AllRenewed list read (changes .lost) next area last
+leads-all list read x changes sum next area mid last pos some fresh e leads own J L finds rows =
+    let all = (rw e at leads) (changes .lost) J L finds (halfway-none read (changes .lost) J L changes area (fresh .0) refl (fresh .2) rows) in
     let k = min (read .p) (read .n) in
-    halfway-all read lost J L k next last
-    (halfway-up read lost J L k sum next mid last pos (omega arith) (omega arith) (finds .family) (own J L (finds .family) (all .old k (omega arith) (omega arith))) k (omega arith) all)
+    halfway-all read (changes .lost) J L k next last
+    (halfway-up read (changes .lost) J L k sum next mid last pos (omega arith) (omega arith) (finds .family) (own J L (finds .family) (all .old k (omega arith) (omega arith))) k (omega arith) all)
 
 -- an area of the same length fits
 pub fits-kept : {read : Read} {a b : ℕ} → b ≡ a → Fits read a → Fits read b

@@ -3,7 +3,7 @@ use mathlib.Core.Path.{_≡_}
 use mathlib.Core.Bool.{cond}
 use mathlib.Core.Logic.{_⊎_}
 use mathlib.Core.List.{List}
-use Prim.Native.Nat.{ℕ, _+_, _-_, _*_, _≤_, _<_, max}
+use Prim.Native.Nat.{ℕ, _+_, _-_, _*_, _^_, _≤_, _<_, max}
 use lib.Dec.{eqb, ltb}
 use Rattle.card.specs.Stretches.{stretches}
 use Rattle.card.specs.Falling.{Falling}
@@ -46,6 +46,16 @@ abbrev pub AllCounted : (n p j leaving gained lost longest : ℕ) (J : ℕ → �
 AllCounted n p j leaving gained lost longest J L =
     (gained + leaving + sumTo n (movedOf (λ i. stretches (L i) n) p j) ≡ lost + sumTo n (λ k. stretches (newOf J p j L k) n))
     × ((B : ℕ) → Bound n L B → max B longest ≡ max B (mostTo n (λ k. stretches (newOf J p j L k) n)))
+
+-- whatever the read finds, all rows are renewed, from changes that count nothing yet but the stretches that leave
+abbrev pub AllRenewed : (list : List ℕ) → Read → (leaving : ℕ) → Changes → (area last : List ℕ) → Type 0
+AllRenewed list read leaving changes area last =
+    (J : ℕ → ℕ) (L : ℕ → ℕ → ℕ) → Finds list read J L → RowsOf area (read .width) (read .n) L
+    → RowsOf last (read .width) (read .n) (newOf J (read .p) (read .j) L) × AllCounted (read .n) (read .p) (read .j) leaving (changes .gained) (changes .lost) (changes .longest) J L
+
+-- nothing is counted yet but a number of stretches that leave, which is small
+abbrev pub Fresh : Changes → Type 0
+Fresh changes = (changes .gained ≡ 0) × (changes .lost < 2 ^ 32) × (changes .longest ≡ 0)
 
 -- what a read finds: the places of the block read, which is at place j of the largest card, in the list, and those of all blocks of the card in the rows
 pub record Found (list area : List ℕ) (n j : ℕ) (J : ℕ → ℕ) (L : ℕ → ℕ → ℕ) : Type 0 where

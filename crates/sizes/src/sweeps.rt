@@ -18,8 +18,8 @@ ghost use Rattle.sizes.specs.Rows.{pairs, rowLength, Row};
 ghost use Rattle.card.specs.Falling.{Falling};
 ghost use Rattle.sizes.specs.Moves.{Family, newOf};
 ghost use Rattle.sizes.specs.Lists.{Begins};
-ghost use Rattle.sizes.specs.Renewals.{Fits, Ready, Finds, Grown};
-ghost use Rattle.sizes.specs.Sweeps.{Leads, RowsOf, AllCounted, Found, leftOf};
+ghost use Rattle.sizes.specs.Renewals.{Ready, Grown};
+ghost use Rattle.sizes.specs.Sweeps.{Leads, RowsOf, AllRenewed, Fresh, Found, leftOf};
 ghost use Rattle.sizes.specs.Totals.{sumTo, mostTo};
 ghost use Rattle.card.specs.Stretches.{stretches};
 ghost use Rattle.card.specs.Stretches as card;
@@ -125,40 +125,79 @@ fn bottom_of(n: u16, p: u16) -> u16
     p
 }
 
-// All rows: those above and below the ones that move, then these, and the one that is left.
+// All rows where the block read was in no card and is put in: those from its place on go down.
+fn renew_inserted(
+    area: &mut [u16],
+    list: &[u16],
+    scratch: &mut [u16],
+    read: Read,
+    changes: Changes,
+) -> Changes
+    requires { ⌜ Ready read (now area) (now list) (now scratch) changes (2 ^ 40) × Fresh changes × (read .j ≡ 0) × (read .p ≤ read .n) ⌝ }
+    ensures renewed { λ r. ⌜ AllRenewed (now (list .entry)) read (changes .lost) r (now (area .entry)) (now (area .exit)) ⌝ }
+    ensures small { λ r. ⌜ r .gained < 2 ^ 36 ⌝ }
+{
+    let upper = above(area, list, scratch, read, read.p, changes);
+    let all = down(area, list, scratch, read, read.n, upper);
+    own(area, read, all)
+}
+
+// All rows where it goes up or stays: those from its new place to its old one go down.
+fn renew_raised(
+    area: &mut [u16],
+    list: &[u16],
+    scratch: &mut [u16],
+    read: Read,
+    changes: Changes,
+) -> Changes
+    requires { ⌜ Ready read (now area) (now list) (now scratch) changes (2 ^ 40) × Fresh changes × (read .p ≤ read .j) × (read .j ≤ read .n) ⌝ }
+    ensures renewed { λ r. ⌜ AllRenewed (now (list .entry)) read (changes .lost) r (now (area .entry)) (now (area .exit)) ⌝ }
+    ensures small { λ r. ⌜ r .gained < 2 ^ 36 ⌝ }
+{
+    let upper = above(area, list, scratch, read, read.p, changes);
+    let both = below(area, list, scratch, read, read.j, upper);
+    let all = down(area, list, scratch, read, read.j, both);
+    own(area, read, all)
+}
+
+// All rows where it goes down or leaves: those from its old place to its new one, or the last one, go up.
+fn renew_lowered(
+    area: &mut [u16],
+    list: &[u16],
+    scratch: &mut [u16],
+    read: Read,
+    changes: Changes,
+) -> Changes
+    requires { ⌜ Ready read (now area) (now list) (now scratch) changes (2 ^ 40) × Fresh changes × (0 < read .j) × (read .j < read .p) × (read .j ≤ read .n) ⌝ }
+    ensures renewed { λ r. ⌜ AllRenewed (now (list .entry)) read (changes .lost) r (now (area .entry)) (now (area .exit)) ⌝ }
+    ensures small { λ r. ⌜ r .gained < 2 ^ 36 ⌝ }
+{
+    let bottom = bottom_of(read.n, read.p);
+    let upper = above(area, list, scratch, read, read.j, changes);
+    let both = below(area, list, scratch, read, bottom, upper);
+    let all = up(area, list, scratch, read, bottom, both);
+    own(area, read, all)
+}
+
+// All rows, by where the block read was.
 fn renew_rows(
     area: &mut [u16],
     list: &[u16],
     scratch: &mut [u16],
     read: Read,
-    lost: usize,
+    changes: Changes,
 ) -> Changes
-    requires { ⌜ Fits read (length (now area)) × (2 ≤ length (now list)) × (read .width < length (now scratch)) × (read .j ≤ read .n) × (read .j ≡ 0 → read .p ≤ read .n) × (lost < 2 ^ 32) ⌝ }
-    ensures rows { λ r. ⌜ ((J : ℕ → ℕ) (L : ℕ → ℕ → ℕ) → Finds (now (list .entry)) read J L → RowsOf (now (area .entry)) (read .width) (read .n) L → RowsOf (now (area .exit)) (read .width) (read .n) (newOf J (read .p) (read .j) L)) ⌝ }
-    ensures counted { λ r. ⌜ ((J : ℕ → ℕ) (L : ℕ → ℕ → ℕ) → Finds (now (list .entry)) read J L → RowsOf (now (area .entry)) (read .width) (read .n) L → AllCounted (read .n) (read .p) (read .j) lost (r .gained) (r .lost) (r .longest) J L) ⌝ }
+    requires { ⌜ Ready read (now area) (now list) (now scratch) changes (2 ^ 40) × Fresh changes × (read .j ≤ read .n) × (read .j ≡ 0 → read .p ≤ read .n) ⌝ }
+    ensures renewed { λ r. ⌜ AllRenewed (now (list .entry)) read (changes .lost) r (now (area .entry)) (now (area .exit)) ⌝ }
     ensures small { λ r. ⌜ r .gained < 2 ^ 36 ⌝ }
 {
-    let changes = Changes {
-        gained: 0,
-        lost,
-        longest: 0,
-    };
     if read.j == 0 {
-        let upper = above(area, list, scratch, read, read.p, changes);
-        let all = down(area, list, scratch, read, read.n, upper);
-        return own(area, read, all);
+        return renew_inserted(area, list, scratch, read, changes);
     }
     if read.j < read.p {
-        let bottom = bottom_of(read.n, read.p);
-        let upper = above(area, list, scratch, read, read.j, changes);
-        let both = below(area, list, scratch, read, bottom, upper);
-        let all = up(area, list, scratch, read, bottom, both);
-        return own(area, read, all);
+        return renew_lowered(area, list, scratch, read, changes);
     }
-    let upper = above(area, list, scratch, read, read.p, changes);
-    let both = below(area, list, scratch, read, read.j, upper);
-    let all = down(area, list, scratch, read, read.j, both);
-    own(area, read, all)
+    renew_raised(area, list, scratch, read, changes)
 }
 
 // The stretches that leave beside what moves: those of the block read, or of a block that is pushed out of the largest card, which has one at most.
@@ -233,5 +272,10 @@ pub fn renew_all(
         p: priority,
         j: place,
     };
-    renew_rows(stretches, list, scratch, read, lost)
+    let changes = Changes {
+        gained: 0,
+        lost,
+        longest: 0,
+    };
+    renew_rows(stretches, list, scratch, read, changes)
 }

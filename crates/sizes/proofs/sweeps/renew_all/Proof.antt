@@ -1,7 +1,7 @@
 -- The rows are renewed at the priority in reach, which does the same up to the largest size; a read that passes by leaves them.
 use borrow.Author.Needs.{needs}
 use native.Mathlib.Omega.{arith}
-use mathlib.Core.Path.{_≡_, sym, ap, _∙_}
+use mathlib.Core.Path.{_≡_, refl, sym, ap, _∙_}
 use mathlib.Core.List.{List}
 use Prim.Native.Nat.{ℕ, _+_, _-_, _*_, _≤_, max}
 use lib.ListN.{length, getD}
@@ -53,7 +53,7 @@ renew-rows-requires c κs =
     let low = list-room (at .n) (pre .1) in
     let reach = c .before .before .before .before .priority-of .ensures in
     let passes = c .before .before .before .before .before .before .before .is-bypass .ensures .1 (c .before .before .before .before .before .before .if1 .left) in
-    (record { read-at = omega arith; some = omega arith; narrow = omega arith; wide = ew; room = rw ew (pre .5) }, omega arith, omega arith, omega arith, λ z. omega (arith, passes z), omega (arith, c .before .before .leaving .ensures .0))
+    ((record { read-at = omega arith; some = omega arith; narrow = omega arith; wide = ew; room = rw ew (pre .5) }, omega arith, omega arith, (omega arith, omega (arith, c .before .before .leaving .ensures .0))), (refl, omega (arith, c .before .before .leaving .ensures .0), refl), omega arith, λ z. omega (arith, passes z))
 
 returns-2 : tie.Need-returns-2
 returns-2 c =
@@ -67,20 +67,20 @@ returns-2 c =
     let counts : (J : ℕ → ℕ) (L : ℕ → ℕ → ℕ) (k : ℕ) → 1 ≤ k → k ≤ n → stretches (newOf J p (at .j) L k) n ≡ stretches (newOf J (at .p) (at .j) L k) n = λ J L k a b. stretches-same (newOf J p (at .j) L k) (newOf J (at .p) (at .j) L k) n (same J L k b) in
     let old : (L : ℕ → ℕ → ℕ) → ((k : ℕ) → 1 ≤ k → k ≤ n → Row (at .stretches .now) ((k - 1) * rowLength n) (rowLength n) (pairs (L k) n)) → (k : ℕ) → 1 ≤ k → k ≤ n → Row (at .stretches .now) ((k - 1) * w) w (pairs (L k) n) = λ L hs. rw ew hs in (
       (λ J L f k a b q h.
-          (rw ew at (re .0 J L (found-finds _ _ _ J L f) (old L (f .rows)) k a b)) q h
+          (rw ew at (re .0 J L (found-finds _ _ _ J L f) (old L (f .rows)) .0 k a b)) q h
           ∙ ap (λ (l : List ℕ). getD l q 0) (pairs-same (newOf J p (at .j) L k) (newOf J (at .p) (at .j) L k) n (same J L k b))),
       (
         (λ J L f. omega (
           arith,
-          re .1 .0 J L (found-finds _ _ _ J L f) (old L (f .rows)) .0,
+          re .0 J L (found-finds _ _ _ J L f) (old L (f .rows)) .1 .0,
           c .before .before .before .before .before .before .before .leaving .ensures .1 J L (f .falling) (f .family) (f .there) (λ q h. f .listed q) (old L (f .rows) n (omega arith) (omega arith)),
           exchange (λ k. stretches (L k) n) (stretches J n) n p (at .j) (omega arith) (omega arith) (omega arith) (stretches-none (L (n + 1)) n (f .family .past)) (λ pos. stretches-same (L (at .j)) J n (λ m hm. f .same pos m)),
           sum-same (λ k. stretches (newOf J p (at .j) L k) n) (λ k. stretches (newOf J (at .p) (at .j) L k) n) n (counts J L),
         )),
         (
-          (λ J L f B h. re .1 .0 J L (found-finds _ _ _ J L f) (old L (f .rows)) .1 B h
+          (λ J L f B h. re .0 J L (found-finds _ _ _ J L f) (old L (f .rows)) .1 .1 B h
               ∙ ap (max B) (most-same (λ k. stretches (newOf J p (at .j) L k) n) (λ k. stretches (newOf J (at .p) (at .j) L k) n) n (counts J L))),
-          re .1 .1,
+          re .1,
         ),
       ),
     )
