@@ -14,7 +14,7 @@ use Rattle.sizes.specs.Outcome.{Areas, countsOf, runOf}
 use Rattle.sizes.proofs.RanOutcomes.{counts-length, header-in}
 use Rattle.sizes.proofs.RanFacts as ran
 use Rattle.sizes.proofs.RanFacts.{Accepted, done-accepted, cells-sum}
-use Rattle.sheet_text.specs.Sheet.{cell, sizeIn}
+use Rattle.sheet_text.specs.Sheet.{cell, sizeIn, longestSheet}
 
 -- ---- the size
 
@@ -23,7 +23,7 @@ size-within s (Given h at) e = header-in s (the-header.Accepted (h .edition) (h 
 size-within s (Refused number place) e = omega arith
 
 -- a heading and a line for each size are short: the one place where the value of the largest size counts
-pub lines-short : (s : List ℕ) → 128 + sizeIn (headerAt s 0) * 256 ≤ 32768
+pub lines-short : (s : List ℕ) → 128 + sizeIn (headerAt s 0) * 256 ≤ longestSheet
 unfolding size
 lines-short s = omega (arith, size-within s (headerAt s 0) refl)
 

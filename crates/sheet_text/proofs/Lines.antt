@@ -5,18 +5,18 @@ use Prim.Native.Nat.{ℕ, suc, _+_, _*_}
 use native.Mathlib.Omega.{arith}
 use lib.ListN.{getD}
 use Rattle.sheet_text.specs.Decimal.{decimal}
-use Rattle.sheet_text.specs.Sheet.{accesses, stretches, block, refused, at, newline, told, heading, cell, sixOf, lineOf, linesOf, refusedLine}
+use Rattle.sheet_text.specs.Sheet.{accesses, stretches, block, refused, at, newline, spaced, heading, cell, sixOf, lineOf, linesOf, refusedLine}
 use Rattle.sheet_text.specs.Writing.{Wrote}
 use Rattle.sheet_text.proofs.Puts.{put-none, put-then}
 
 pub heading-put : {t t₁ t₂ t₃ t₄ t₅ t₆ t₇ : List ℕ} {e₁ e₂ e₃ e₄ e₅ e₆ e₇ : ℕ} (reads total one : ℕ)
-    → Wrote t t₁ 0 e₁ accesses → Wrote t₁ t₂ e₁ e₂ (told reads) → Wrote t₂ t₃ e₂ e₃ stretches → Wrote t₃ t₄ e₃ e₄ (told total)
-    → Wrote t₄ t₅ e₄ e₅ block → Wrote t₅ t₆ e₅ e₆ (told one) → Wrote t₆ t₇ e₆ e₇ newline → Wrote t t₇ 0 e₇ (heading reads total one)
+    → Wrote t t₁ 0 e₁ accesses → Wrote t₁ t₂ e₁ e₂ (spaced reads) → Wrote t₂ t₃ e₂ e₃ stretches → Wrote t₃ t₄ e₃ e₄ (spaced total)
+    → Wrote t₄ t₅ e₄ e₅ block → Wrote t₅ t₆ e₅ e₆ (spaced one) → Wrote t₆ t₇ e₆ e₇ newline → Wrote t t₇ 0 e₇ (heading reads total one)
 unfolding heading
 heading-put reads total one a b c d e f g = put-then (put-then (put-then (put-then (put-then (put-then a b) c) d) e) f) g
 
 pub refused-put : {t t₁ t₂ t₃ t₄ t₅ : List ℕ} {e₁ e₂ e₃ e₄ e₅ : ℕ} (number place : ℕ)
-    → Wrote t t₁ 0 e₁ refused → Wrote t₁ t₂ e₁ e₂ (told number) → Wrote t₂ t₃ e₂ e₃ at → Wrote t₃ t₄ e₃ e₄ (told place)
+    → Wrote t t₁ 0 e₁ refused → Wrote t₁ t₂ e₁ e₂ (spaced number) → Wrote t₂ t₃ e₂ e₃ at → Wrote t₃ t₄ e₃ e₄ (spaced place)
     → Wrote t₄ t₅ e₄ e₅ newline → Wrote t t₅ 0 e₅ (refusedLine number place)
 unfolding refusedLine
 refused-put number place a b c d e = put-then (put-then (put-then (put-then a b) c) d) e
@@ -27,14 +27,14 @@ module _ (counts : List ℕ) (m : ℕ) where
   first-cell = ap (λ (i : ℕ). getD counts i 0) (omega arith)
 
   pub six-put : {t t₁ t₂ t₃ t₄ t₅ t₆ : List ℕ} {from e₁ e₂ e₃ e₄ e₅ e₆ : ℕ}
-      → Wrote t t₁ from e₁ (told (getD counts (6 * m) 0)) → Wrote t₁ t₂ e₁ e₂ (told (cell counts m 1)) → Wrote t₂ t₃ e₂ e₃ (told (cell counts m 2))
-      → Wrote t₃ t₄ e₃ e₄ (told (cell counts m 3)) → Wrote t₄ t₅ e₄ e₅ (told (cell counts m 4)) → Wrote t₅ t₆ e₅ e₆ (told (cell counts m 5))
+      → Wrote t t₁ from e₁ (spaced (getD counts (6 * m) 0)) → Wrote t₁ t₂ e₁ e₂ (spaced (cell counts m 1)) → Wrote t₂ t₃ e₂ e₃ (spaced (cell counts m 2))
+      → Wrote t₃ t₄ e₃ e₄ (spaced (cell counts m 3)) → Wrote t₄ t₅ e₄ e₅ (spaced (cell counts m 4)) → Wrote t₅ t₆ e₅ e₆ (spaced (cell counts m 5))
       → Wrote t t₆ from e₆ (sixOf (cell counts m))
   unfolding sixOf
   six-put a b c d e f = put-then (put-then (put-then (put-then (put-then (rw first-cell at a) b) c) d) e) f
 
   pub line-put : {t t₁ t₂ t₃ t₄ : List ℕ} {from e₁ e₂ e₃ e₄ : ℕ}
-      → Wrote t t₁ from e₁ (decimal (m + 1)) → Wrote t₁ t₂ e₁ e₂ (told (cell counts m 4 + cell counts m 5)) → Wrote t₂ t₃ e₂ e₃ (sixOf (cell counts m))
+      → Wrote t t₁ from e₁ (decimal (m + 1)) → Wrote t₁ t₂ e₁ e₂ (spaced (cell counts m 4 + cell counts m 5)) → Wrote t₂ t₃ e₂ e₃ (sixOf (cell counts m))
       → Wrote t₃ t₄ e₃ e₄ newline → Wrote t t₄ from e₄ (lineOf (cell counts m) m)
   unfolding lineOf
   line-put a b c d = put-then (put-then (put-then a b) c) d

@@ -9,7 +9,7 @@ use lib.Seq.{take-all, take-suc}
 use mir.Val.{Fits}
 use mir.Syntax.{w64}
 use Rattle.sheet_text.specs.Decimal.{digit, decimal}
-use Rattle.sheet_text.specs.Sheet.{told}
+use Rattle.sheet_text.specs.Sheet.{spaced}
 use Rattle.sheet_text.specs.Writing.{Wrote}
 use Rattle.sheet_text.proofs.Puts.{put-one, put-then}
 use Rattle.sheet_text.proofs.Decimals.{decimal-low, decimal-step, decimal-short}
@@ -45,6 +45,6 @@ number-high {a} {b} {c} {at} {mid} {end} {n} h g w e f = number-ends h (put-same
 
 -- ---- a number after a space
 
-pub told-number : {a b c : List ℕ} {at mid end : ℕ} (n : ℕ) → b ≡ set a at 32 → mid ≡ at + 1 → Wrote b c mid end (decimal n) → end ≤ mid + 20 → Wrote a c at end (told n) × (end ≤ at + 21)
-unfolding told
-told-number n e f w h = (put-then (put-byte e f) w, omega arith)
+pub spaced-number : {a b c : List ℕ} {at mid end : ℕ} (n : ℕ) → b ≡ set a at 32 → mid ≡ at + 1 → Wrote b c mid end (decimal n) → end ≤ mid + 20 → Wrote a c at end (spaced n) × (end ≤ at + 21)
+unfolding spaced
+spaced-number n e f w h = (put-then (put-byte e f) w, omega arith)

@@ -11,8 +11,9 @@ use Rattle.trace.specs.Trace.{Trace, traceOf}
 use Rattle.card.specs.Run.{count}
 use Rattle.card.specs.Stretches.{peakTotal, peakOfOne}
 use Rattle.sizes.specs.Outcome.{Areas, isRoom, countsOf, fronted, runOf}
+use Rattle.sizes.specs.Answers.{AreasAre}
 use Rattle.sizes.proofs.RanOutcomes.{counts-length}
-use Rattle.sizes.proofs.RanFacts.{Accepted, done-accepted, accepted-done, count-at}
+use Rattle.sizes.proofs.RanFacts.{Accepted, done-accepted, accepted-done, count-at, areas-determined}
 use Rattle.sheet_text.specs.Sheet.{heading, cell, sixOf, lineOf, linesOf, sheetOf, shown}
 use Rattle.sheet_text.proofs.Bounds.{trace-size}
 
@@ -66,9 +67,8 @@ module _ (s : List ℕ) (areas : Areas) (t : Trace) (end : ℕ) where
 -- what the contract says of an answer, and of the text and the areas after it
 abbrev pub Meets : (bytes : List ℕ) (areas : Areas) (text : List ℕ) (r : ℕ) (text₁ blocks stretches counts : List ℕ) → Type 0
 Meets bytes areas text r text₁ blocks stretches counts =
-    (r ≡ length (sheetOf bytes areas)) × (text₁ ≡ shown (sheetOf bytes areas) text)
-    × (blocks ≡ runOf bytes areas .areas .blocks) × (stretches ≡ runOf bytes areas .areas .stretches) × (counts ≡ runOf bytes areas .areas .counts)
+    (r ≡ length (sheetOf bytes areas)) × (text₁ ≡ shown (sheetOf bytes areas) text) × AreasAre (runOf bytes areas .areas) blocks stretches counts
 
 pub sheet-determined : (bytes : List ℕ) (areas : Areas) (text : List ℕ) (r r′ : ℕ) (x b s c x′ b′ s′ c′ : List ℕ)
-    → Meets bytes areas text r x b s c → Meets bytes areas text r′ x′ b′ s′ c′ → (r ≡ r′) × (x ≡ x′) × (b ≡ b′) × (s ≡ s′) × (c ≡ c′)
-sheet-determined bytes areas text r r′ x b s c x′ b′ s′ c′ e f = (e .0 ∙ sym (f .0), e .1 ∙ sym (f .1), e .2 ∙ sym (f .2), e .3 ∙ sym (f .3), e .4 ∙ sym (f .4))
+    → Meets bytes areas text r x b s c → Meets bytes areas text r′ x′ b′ s′ c′ → (r ≡ r′) × (x ≡ x′) × ((b ≡ b′) × (s ≡ s′) × (c ≡ c′))
+sheet-determined bytes areas text r r′ x b s c x′ b′ s′ c′ e f = (e .0 ∙ sym (f .0), e .1 ∙ sym (f .1), areas-determined (runOf bytes areas .areas) b s c b′ s′ c′ (e .2) (f .2))

@@ -26,12 +26,12 @@ abbrev pub newline : List ℕ
 newline = 10 ∷ []
 
 -- a number after a single space
-unfoldable pub told : ℕ → List ℕ
-told n = 32 ∷ decimal n
+unfoldable pub spaced : ℕ → List ℕ
+spaced n = 32 ∷ decimal n
 
 -- the first line: the reads and the two peaks
 unfoldable pub heading : (reads total one : ℕ) → List ℕ
-heading reads total one = accesses ++ told reads ++ stretches ++ told total ++ block ++ told one ++ newline
+heading reads total one = accesses ++ spaced reads ++ stretches ++ spaced total ++ block ++ spaced one ++ newline
 
 -- the count of an outcome for the size after so many sizes
 abbrev pub cell : List ℕ → (m o : ℕ) → ℕ
@@ -39,11 +39,11 @@ cell counts m o = getD counts (6 * m + o) 0
 
 -- the six counts, by outcome
 unfoldable pub sixOf : (ℕ → ℕ) → List ℕ
-sixOf counts = told (counts 0) ++ told (counts 1) ++ told (counts 2) ++ told (counts 3) ++ told (counts 4) ++ told (counts 5)
+sixOf counts = spaced (counts 0) ++ spaced (counts 1) ++ spaced (counts 2) ++ spaced (counts 3) ++ spaced (counts 4) ++ spaced (counts 5)
 
 -- the line of the size after m sizes: size, misses, and the six counts
 unfoldable pub lineOf : (ℕ → ℕ) → ℕ → List ℕ
-lineOf counts m = decimal (m + 1) ++ told (counts 4 + counts 5) ++ sixOf counts ++ newline
+lineOf counts m = decimal (m + 1) ++ spaced (counts 4 + counts 5) ++ sixOf counts ++ newline
 
 -- the lines of sizes 1 to n, each with its counts
 unfoldable pub linesOf : (ℕ → ℕ → ℕ) → ℕ → List ℕ
@@ -52,7 +52,7 @@ linesOf counts (suc m) = linesOf counts m ++ lineOf (counts m) m
 
 -- the one line of a refusal
 unfoldable pub refusedLine : (number place : ℕ) → List ℕ
-refusedLine number place = refused ++ told number ++ at ++ told place ++ newline
+refusedLine number place = refused ++ spaced number ++ at ++ spaced place ++ newline
 
 -- the largest size that a trace names
 abbrev pub sizeIn : Reading Header → ℕ
@@ -67,6 +67,10 @@ sheetBy n counts (outcome.Refused number place) = refusedLine number place
 -- the sheet of a trace, in areas that are lent
 unfoldable pub sheetOf : List ℕ → outcome.Areas → List ℕ
 sheetOf bytes areas = sheetBy (sizeIn (headerAt bytes 0)) (outcome.runOf bytes areas .areas .counts) (outcome.runOf bytes areas .answer)
+
+-- no sheet is longer
+abbrev pub longestSheet : ℕ
+longestSheet = 32768
 
 -- a text area with bytes at its front, as far as they fit
 abbrev pub shown : (bytes text : List ℕ) → List ℕ

@@ -6,9 +6,9 @@ use terms::refusal_number;
 ghost use mathlib.Core.Path.{_≡_};
 ghost use Prim.Native.Nat.{_≤_};
 ghost use lib.ListN.{length};
-ghost use Rattle.sizes.specs.Answers.{areasOf};
+ghost use Rattle.sizes.specs.Answers.{areasOf, AreasAre};
 ghost use Rattle.sheet_text.specs.Desk.{deskSheetOf, areasAfter};
-ghost use Rattle.sheet_text.specs.Sheet.{shown};
+ghost use Rattle.sheet_text.specs.Sheet.{shown, longestSheet};
 
 pub const LARGEST_INPUT: usize = 16384;
 
@@ -22,10 +22,8 @@ pub fn desk_sheet(
 ) -> usize
     ensures text { λ r. ⌜ (r ≡ length (deskSheetOf (now (trace .entry)) (areasOf (now (blocks .entry)) (now (stretches .entry)) (now (counts .entry)))))
         × (now (text .exit) ≡ shown (deskSheetOf (now (trace .entry)) (areasOf (now (blocks .entry)) (now (stretches .entry)) (now (counts .entry)))) (now (text .entry))) ⌝ }
-    ensures short { λ r. ⌜ r ≤ 32768 ⌝ }
-    ensures areas { λ r. ⌜ (now (blocks .exit) ≡ areasAfter (now (trace .entry)) (areasOf (now (blocks .entry)) (now (stretches .entry)) (now (counts .entry))) .blocks)
-        × (now (stretches .exit) ≡ areasAfter (now (trace .entry)) (areasOf (now (blocks .entry)) (now (stretches .entry)) (now (counts .entry))) .stretches)
-        × (now (counts .exit) ≡ areasAfter (now (trace .entry)) (areasOf (now (blocks .entry)) (now (stretches .entry)) (now (counts .entry))) .counts) ⌝ }
+    ensures short { λ r. ⌜ r ≤ longestSheet ⌝ }
+    ensures areas { λ r. ⌜ AreasAre (areasAfter (now (trace .entry)) (areasOf (now (blocks .entry)) (now (stretches .entry)) (now (counts .entry)))) (now (blocks .exit)) (now (stretches .exit)) (now (counts .exit)) ⌝ }
 {
     if LARGEST_INPUT < trace.len() {
         return put_refused(text, refusal_number(Refusal::Large), LARGEST_INPUT);

@@ -1,7 +1,7 @@
 // The sheet of a trace: the reads and the peaks, then a line for each size, or one line that says why there is none.
 use crate::text::put_number;
 use crate::text::put_refused;
-use crate::text::put_told;
+use crate::text::put_spaced;
 use crate::text::put_words;
 use sizes::run::Ran;
 use sizes::run::run;
@@ -13,8 +13,8 @@ ghost use Prim.Native.Nat.{ℕ, _+_, _*_, _^_, _<_, _≤_};
 ghost use lib.ListN.{length};
 ghost use Rattle.trace.specs.Reading.{headerAt};
 ghost use Rattle.sizes.specs.Outcome.{runOf};
-ghost use Rattle.sizes.specs.Answers.{areasOf};
-ghost use Rattle.sheet_text.specs.Sheet.{cell, heading, sixOf, lineOf, linesOf, sizeIn, sheetOf, shown};
+ghost use Rattle.sizes.specs.Answers.{areasOf, AreasAre};
+ghost use Rattle.sheet_text.specs.Sheet.{cell, heading, sixOf, lineOf, linesOf, sizeIn, sheetOf, shown, longestSheet};
 ghost use Rattle.sheet_text.specs.Writing.{Wrote};
 
 // The first line.
@@ -22,11 +22,11 @@ fn put_heading(text: &mut [u8], reads: u64, total: u64, one: u64) -> usize
     ensures { λ r. ⌜ Wrote (now (text .entry)) (now (text .exit)) 0 r (heading reads total one) × (r ≤ 128) ⌝ }
 {
     let mut at = put_words(text, 0, b"accesses");
-    at = put_told(text, at, reads);
+    at = put_spaced(text, at, reads);
     at = put_words(text, at, b" stretches");
-    at = put_told(text, at, total);
+    at = put_spaced(text, at, total);
     at = put_words(text, at, b" block");
-    at = put_told(text, at, one);
+    at = put_spaced(text, at, one);
     put_words(text, at, b"\n")
 }
 
@@ -35,12 +35,12 @@ fn put_counts(text: &mut [u8], from: usize, counts: &[u64], m: usize) -> usize
     requires { ⌜ (from < 2 ^ 41) × (6 * m + 6 ≤ length (now counts)) ⌝ }
     ensures { λ r. ⌜ Wrote (now (text .entry)) (now (text .exit)) from r (sixOf (cell (now (counts .entry)) m)) × (r ≤ from + 126) ⌝ }
 {
-    let mut at = put_told(text, from, counts[6 * m]);
-    at = put_told(text, at, counts[6 * m + 1]);
-    at = put_told(text, at, counts[6 * m + 2]);
-    at = put_told(text, at, counts[6 * m + 3]);
-    at = put_told(text, at, counts[6 * m + 4]);
-    put_told(text, at, counts[6 * m + 5])
+    let mut at = put_spaced(text, from, counts[6 * m]);
+    at = put_spaced(text, at, counts[6 * m + 1]);
+    at = put_spaced(text, at, counts[6 * m + 2]);
+    at = put_spaced(text, at, counts[6 * m + 3]);
+    at = put_spaced(text, at, counts[6 * m + 4]);
+    put_spaced(text, at, counts[6 * m + 5])
 }
 
 // The line of the size after m sizes.
@@ -49,7 +49,7 @@ fn put_line(text: &mut [u8], from: usize, counts: &[u64], m: usize) -> usize
     ensures { λ r. ⌜ Wrote (now (text .entry)) (now (text .exit)) from r (lineOf (cell (now (counts .entry)) m) m) × (r ≤ from + 256) ⌝ }
 {
     let mut at = put_number(text, from, (m + 1) as u64);
-    at = put_told(text, at, counts[6 * m + 4] + counts[6 * m + 5]);
+    at = put_spaced(text, at, counts[6 * m + 4] + counts[6 * m + 5]);
     at = put_counts(text, at, counts, m);
     put_words(text, at, b"\n")
 }
@@ -92,10 +92,8 @@ pub fn sheet(
 ) -> usize
     ensures text { λ r. ⌜ (r ≡ length (sheetOf (now (trace .entry)) (areasOf (now (blocks .entry)) (now (stretches .entry)) (now (counts .entry)))))
         × (now (text .exit) ≡ shown (sheetOf (now (trace .entry)) (areasOf (now (blocks .entry)) (now (stretches .entry)) (now (counts .entry)))) (now (text .entry))) ⌝ }
-    ensures short { λ r. ⌜ r ≤ 32768 ⌝ }
-    ensures areas { λ r. ⌜ (now (blocks .exit) ≡ runOf (now (trace .entry)) (areasOf (now (blocks .entry)) (now (stretches .entry)) (now (counts .entry))) .areas .blocks)
-        × (now (stretches .exit) ≡ runOf (now (trace .entry)) (areasOf (now (blocks .entry)) (now (stretches .entry)) (now (counts .entry))) .areas .stretches)
-        × (now (counts .exit) ≡ runOf (now (trace .entry)) (areasOf (now (blocks .entry)) (now (stretches .entry)) (now (counts .entry))) .areas .counts) ⌝ }
+    ensures short { λ r. ⌜ r ≤ longestSheet ⌝ }
+    ensures areas { λ r. ⌜ AreasAre (runOf (now (trace .entry)) (areasOf (now (blocks .entry)) (now (stretches .entry)) (now (counts .entry))) .areas) (now (blocks .exit)) (now (stretches .exit)) (now (counts .exit)) ⌝ }
 {
     match run(trace, blocks, stretches, counts) {
         Ran::Done { reads, total, one } => {

@@ -3,7 +3,7 @@ ghost use mathlib.Core.Path.{_≡_};
 ghost use Prim.Native.Nat.{_+_, _^_, _<_, _≤_};
 ghost use lib.ListN.{length, set};
 ghost use Rattle.sheet_text.specs.Decimal.{decimal};
-ghost use Rattle.sheet_text.specs.Sheet.{told, refusedLine};
+ghost use Rattle.sheet_text.specs.Sheet.{spaced, refusedLine};
 ghost use Rattle.sheet_text.specs.Writing.{Wrote};
 
 // One byte.
@@ -44,9 +44,9 @@ pub fn put_number(text: &mut [u8], at: usize, n: u64) -> usize
 }
 
 // A number after a single space.
-pub fn put_told(text: &mut [u8], at: usize, n: u64) -> usize
+pub fn put_spaced(text: &mut [u8], at: usize, n: u64) -> usize
     requires { ⌜ at < 2 ^ 61 ⌝ }
-    ensures { λ r. ⌜ Wrote (now (text .entry)) (now (text .exit)) at r (told n) × (r ≤ at + 21) ⌝ }
+    ensures { λ r. ⌜ Wrote (now (text .entry)) (now (text .exit)) at r (spaced n) × (r ≤ at + 21) ⌝ }
 {
     let end = put(text, at, 32);
     put_number(text, end, n)
@@ -57,8 +57,8 @@ pub fn put_refused(text: &mut [u8], number: u32, place: usize) -> usize
     ensures { λ r. ⌜ Wrote (now (text .entry)) (now (text .exit)) 0 r (refusedLine number place) × (r ≤ 128) ⌝ }
 {
     let mut at = put_words(text, 0, b"refused");
-    at = put_told(text, at, number as u64);
+    at = put_spaced(text, at, number as u64);
     at = put_words(text, at, b" at");
-    at = put_told(text, at, place as u64);
+    at = put_spaced(text, at, place as u64);
     put_words(text, at, b"\n")
 }

@@ -25,7 +25,7 @@ use Rattle.sizes.specs.declared.run.Ran.{Ran}
 use Rattle.sizes.specs.declared.run.Ran.the-variants as the-ran
 use Rattle.sizes.specs.Outcome as outcome
 use Rattle.sizes.specs.Outcome.{Areas, Outcome, isRoom, countsOf, fronted, recorded, headed, runOf}
-use Rattle.sizes.specs.Answers.{ranAnswer}
+use Rattle.sizes.specs.Answers.{ranAnswer, AreasAre}
 use Rattle.sizes.proofs.RanOutcomes.{counts-length}
 
 -- ---- an accepted trace
@@ -183,9 +183,11 @@ one-ran (the-ran.Refused r p) (the-ran.Refused s o) q = ap₂ the-ran.Refused (o
 
 -- what the contract says of an answer and the areas after it
 abbrev pub Meets : Outcome → Ran → (blocks stretches counts : List ℕ) → Type 0
-Meets o r blocks stretches counts =
-    (ranAnswer r ≡ o .answer) × (blocks ≡ o .areas .blocks) × (stretches ≡ o .areas .stretches) × (counts ≡ o .areas .counts)
+Meets o r blocks stretches counts = (ranAnswer r ≡ o .answer) × AreasAre (o .areas) blocks stretches counts
+
+pub areas-determined : (areas : Areas) (b s c b′ s′ c′ : List ℕ) → AreasAre areas b s c → AreasAre areas b′ s′ c′ → (b ≡ b′) × (s ≡ s′) × (c ≡ c′)
+areas-determined areas b s c b′ s′ c′ e f = (e .0 ∙ sym (f .0), e .1 ∙ sym (f .1), e .2 ∙ sym (f .2))
 
 pub run-determined : (bytes : List ℕ) (areas : Areas) (x y : Ran) (b s c b′ s′ c′ : List ℕ)
-    → Meets (runOf bytes areas) x b s c → Meets (runOf bytes areas) y b′ s′ c′ → (x ≡ y) × (b ≡ b′) × (s ≡ s′) × (c ≡ c′)
-run-determined bytes areas x y b s c b′ s′ c′ e f = (one-ran x y (e .0 ∙ sym (f .0)), e .1 ∙ sym (f .1), e .2 ∙ sym (f .2), e .3 ∙ sym (f .3))
+    → Meets (runOf bytes areas) x b s c → Meets (runOf bytes areas) y b′ s′ c′ → (x ≡ y) × ((b ≡ b′) × (s ≡ s′) × (c ≡ c′))
+run-determined bytes areas x y b s c b′ s′ c′ e f = (one-ran x y (e .0 ∙ sym (f .0)), areas-determined (runOf bytes areas .areas) b s c b′ s′ c′ (e .1) (f .1))

@@ -1,5 +1,6 @@
 -- What each answer of the code says, in the table's numbers.
 use Prim.Native.Nat.{ℕ}
+use mathlib.Core.Path.{_≡_}
 use mathlib.Core.List.{List}
 use Rattle.terms.specs.Refusals.{numberOf}
 use Rattle.sizes.specs.Outcome as outcome
@@ -14,3 +15,7 @@ ranAnswer (the-ran.Refused refusal place) = outcome.Refused (numberOf refusal) p
 -- the three lent areas
 abbrev pub areasOf : (blocks stretches counts : List ℕ) → outcome.Areas
 areasOf blocks stretches counts = record { blocks = blocks; stretches = stretches; counts = counts }
+
+-- the three areas, as they should be left
+abbrev pub AreasAre : outcome.Areas → (blocks stretches counts : List ℕ) → Type 0
+AreasAre areas blocks stretches counts = (blocks ≡ areas .blocks) × (stretches ≡ areas .stretches) × (counts ≡ areas .counts)

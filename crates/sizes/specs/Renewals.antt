@@ -26,7 +26,7 @@ Carried entry exit from at width n p J S T =
     Row entry from width (pairs S n) → Row entry at width (pairs T n)
     → Row exit at width (pairs (after J p S) n) × (stretches (after J p S) n ≡ stretches S n)
 
--- so does that of a block that is nowhere
+-- so it does whatever block the row belongs to, one of the largest card or one that is nowhere
 abbrev pub CarriedNone : (entry exit : List ℕ) (from at width : ℕ) → Type 0
 CarriedNone entry exit from at width =
     (n p : ℕ) (J S T : ℕ → ℕ) → width ≡ rowLength n → 0 < p → Falling T → (0 < S n) ⊎ ((m : ℕ) → S m ≡ 0) → Falling S

@@ -37,7 +37,7 @@ fn summed(sums: Sums, changes: Changes) -> Sums
     Sums { now, most, one }
 }
 
-// What the scratch holds does not matter, neither before nor after.
+// The areas and the sums after one read. What the scratch holds does not matter, neither before nor after.
 pub fn read(
     blocks: &mut [u64],
     stretches: &mut [u16],

@@ -21,7 +21,7 @@ ghost use Rattle.trace.specs.Reading.{Reading};
 ghost use Rattle.trace.specs.Trace.{readsFrom};
 ghost use Rattle.sizes.specs.Outcome.{blocksLength, stretchesLength, countsLength, zeros, runOf};
 ghost use Rattle.sizes.specs.Passing.{answered, counted, TalliedBy};
-ghost use Rattle.sizes.specs.Answers.{ranAnswer, areasOf};
+ghost use Rattle.sizes.specs.Answers.{ranAnswer, areasOf, AreasAre};
 
 pub enum Ran {
     // The reads, and the peaks of the stretches of all blocks and of one.
@@ -165,10 +165,8 @@ fn is_room(n: usize, blocks: usize, stretches: usize, counts: usize) -> bool
 
 // Reads a whole trace. A refusal before the first record leaves the areas untouched; what lies past the lengths that the size asks for stays as it was.
 pub fn run(trace: &[u8], blocks: &mut [u64], stretches: &mut [u16], counts: &mut [u64]) -> Ran
-    ensures { λ r. ⌜ (ranAnswer r ≡ runOf (now (trace .entry)) (areasOf (now (blocks .entry)) (now (stretches .entry)) (now (counts .entry))) .answer)
-        × (now (blocks .exit) ≡ runOf (now (trace .entry)) (areasOf (now (blocks .entry)) (now (stretches .entry)) (now (counts .entry))) .areas .blocks)
-        × (now (stretches .exit) ≡ runOf (now (trace .entry)) (areasOf (now (blocks .entry)) (now (stretches .entry)) (now (counts .entry))) .areas .stretches)
-        × (now (counts .exit) ≡ runOf (now (trace .entry)) (areasOf (now (blocks .entry)) (now (stretches .entry)) (now (counts .entry))) .areas .counts) ⌝ }
+    ensures answer { λ r. ⌜ ranAnswer r ≡ runOf (now (trace .entry)) (areasOf (now (blocks .entry)) (now (stretches .entry)) (now (counts .entry))) .answer ⌝ }
+    ensures areas { λ r. ⌜ AreasAre (runOf (now (trace .entry)) (areasOf (now (blocks .entry)) (now (stretches .entry)) (now (counts .entry))) .areas) (now (blocks .exit)) (now (stretches .exit)) (now (counts .exit)) ⌝ }
 {
     match read_header(trace) {
         Header::Accepted {

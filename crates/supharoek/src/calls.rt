@@ -1,4 +1,4 @@
-// The calls.
+// The calls on traces: headers, records, the run and the sheet.
 use crate::told::tell;
 use crate::told::tell_one;
 use sizes::run::Ran;
@@ -14,7 +14,7 @@ ghost use Rattle.trace.specs.Spelling.{spellings, headerValues, readValues};
 ghost use Rattle.trace.specs.Answers.{writtenAnswer};
 ghost use Rattle.trace.specs.Writing.{headerWriting, recordWriting, bufferAfter};
 ghost use Rattle.sizes.specs.Outcome.{runOf};
-ghost use Rattle.sizes.specs.Answers.{areasOf};
+ghost use Rattle.sizes.specs.Answers.{areasOf, AreasAre};
 ghost use Rattle.sheet_text.specs.Sheet.{sheetOf, shown};
 ghost use Rattle.supharoek.specs.Told.{headerTold, recordTold, writingTold, runTold};
 
@@ -124,9 +124,7 @@ pub extern "C" fn supharoek_run(
 ) -> u32
     ensures told { λ r. ⌜ (r ≡ runTold (runOf (now (trace .entry)) (areasOf (now (blocks .entry)) (now (stretches .entry)) (now (counts .entry))) .answer) .number)
         × (now (out .exit) ≡ shown (runTold (runOf (now (trace .entry)) (areasOf (now (blocks .entry)) (now (stretches .entry)) (now (counts .entry))) .answer) .values) (now (out .entry))) ⌝ }
-    ensures areas { λ r. ⌜ (now (blocks .exit) ≡ runOf (now (trace .entry)) (areasOf (now (blocks .entry)) (now (stretches .entry)) (now (counts .entry))) .areas .blocks)
-        × (now (stretches .exit) ≡ runOf (now (trace .entry)) (areasOf (now (blocks .entry)) (now (stretches .entry)) (now (counts .entry))) .areas .stretches)
-        × (now (counts .exit) ≡ runOf (now (trace .entry)) (areasOf (now (blocks .entry)) (now (stretches .entry)) (now (counts .entry))) .areas .counts) ⌝ }
+    ensures areas { λ r. ⌜ AreasAre (runOf (now (trace .entry)) (areasOf (now (blocks .entry)) (now (stretches .entry)) (now (counts .entry))) .areas) (now (blocks .exit)) (now (stretches .exit)) (now (counts .exit)) ⌝ }
 {
     match sizes::run::run(trace, blocks, stretches, counts) {
         Ran::Done { reads, total, one } => {
@@ -152,9 +150,7 @@ pub extern "C" fn supharoek_sheet(
 ) -> usize
     ensures text { λ r. ⌜ (r ≡ length (sheetOf (now (trace .entry)) (areasOf (now (blocks .entry)) (now (stretches .entry)) (now (counts .entry)))))
         × (now (text .exit) ≡ shown (sheetOf (now (trace .entry)) (areasOf (now (blocks .entry)) (now (stretches .entry)) (now (counts .entry)))) (now (text .entry))) ⌝ }
-    ensures areas { λ r. ⌜ (now (blocks .exit) ≡ runOf (now (trace .entry)) (areasOf (now (blocks .entry)) (now (stretches .entry)) (now (counts .entry))) .areas .blocks)
-        × (now (stretches .exit) ≡ runOf (now (trace .entry)) (areasOf (now (blocks .entry)) (now (stretches .entry)) (now (counts .entry))) .areas .stretches)
-        × (now (counts .exit) ≡ runOf (now (trace .entry)) (areasOf (now (blocks .entry)) (now (stretches .entry)) (now (counts .entry))) .areas .counts) ⌝ }
+    ensures areas { λ r. ⌜ AreasAre (runOf (now (trace .entry)) (areasOf (now (blocks .entry)) (now (stretches .entry)) (now (counts .entry))) .areas) (now (blocks .exit)) (now (stretches .exit)) (now (counts .exit)) ⌝ }
 {
     sheet_text::sheet::sheet(trace, blocks, stretches, counts, text)
 }

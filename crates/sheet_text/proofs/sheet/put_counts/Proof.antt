@@ -14,7 +14,7 @@ returns c =
     let second = third .before .before .before .before .before in
     let first = second .before .before .before .before .before in
     let args = first .before .before .before .before .before .args in
-    (six-put (args .counts .now) (args .m) (first .put-told .ensures .0) (second .put-told2 .ensures .0) (third .put-told3 .ensures .0) (fourth .put-told4 .ensures .0) (fifth .put-told5 .ensures .0) (sixth .put-told6 .ensures .0), omega arith)
+    (six-put (args .counts .now) (args .m) (first .put-spaced .ensures .0) (second .put-spaced2 .ensures .0) (third .put-spaced3 .ensures .0) (fourth .put-spaced4 .ensures .0) (fifth .put-spaced5 .ensures .0) (sixth .put-spaced6 .ensures .0), omega arith)
 
 pub put-counts-spec : {M : Type 1} → statement M
 put-counts-spec =

@@ -14,7 +14,7 @@ returns c =
     let third = fourth .before .before .before .before in
     let second = third .before .before .before .before .before in
     let first = second .before .before .before .before in
-    (heading-put _ _ _ (first .put-words .ensures) (second .put-told .ensures .0) (third .put-words2 .ensures) (fourth .put-told2 .ensures .0) (fifth .put-words3 .ensures) (sixth .put-told3 .ensures .0) (seventh .put-words4 .ensures), omega arith)
+    (heading-put _ _ _ (first .put-words .ensures) (second .put-spaced .ensures .0) (third .put-words2 .ensures) (fourth .put-spaced2 .ensures .0) (fifth .put-words3 .ensures) (sixth .put-spaced3 .ensures .0) (seventh .put-words4 .ensures), omega arith)
 
 pub put-heading-spec : {M : Type 1} → statement M
 put-heading-spec =

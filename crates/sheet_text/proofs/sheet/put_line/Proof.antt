@@ -12,7 +12,7 @@ returns c =
     let second = third .before .before .before .before in
     let first = second .before .before .before .before .before .before in
     let args = first .before .before .before .before .args in
-    (line-put (args .counts .now) (args .m) (first .put-number .ensures .0) (second .put-told .ensures .0) (third .put-counts .ensures .0) (fourth .put-words .ensures), omega arith)
+    (line-put (args .counts .now) (args .m) (first .put-number .ensures .0) (second .put-spaced .ensures .0) (third .put-counts .ensures .0) (fourth .put-words .ensures), omega arith)
 
 pub put-line-spec : {M : Type 1} → statement M
 put-line-spec =

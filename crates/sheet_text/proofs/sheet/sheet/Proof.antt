@@ -13,7 +13,7 @@ put-lines-requires c κs =
     let ran = matched .before .before .before .before .before .before .before .before in
     let args = ran .before .before .before .before .before .before .before .before .before .args in
     let said = ran .run .ensures in
-    let ready = lines-ready (args .trace .now) (areasOf (args .blocks .now) (args .stretches .now) (args .counts .now)) _ (said .0) _ _ _ (matched .reads .given .1) _ (said .3) _ (c .size-in .ensures) (omega arith) in
+    let ready = lines-ready (args .trace .now) (areasOf (args .blocks .now) (args .stretches .now) (args .counts .now)) _ (said .0) _ _ _ (matched .reads .given .1) _ (said .1 .2) _ (c .size-in .ensures) (omega arith) in
     (omega arith, ready .0, ready .1, ready .2)
 
 returns : tie.Need-returns
@@ -24,8 +24,8 @@ returns c =
     let ran = matched .before .before .before .before .before .before .before .before in
     let args = ran .before .before .before .before .before .before .before .before .before .args in
     let said = ran .run .ensures in
-    let put = sheet-done (args .trace .now) (areasOf (args .blocks .now) (args .stretches .now) (args .counts .now)) _ (said .0) _ _ _ (matched .reads .given .1) _ (said .3) _ (lined .before .size-in .ensures) (headed .put-heading .ensures .0) (lined .put-lines .ensures .0) in
-    (whole put, (omega (arith, lines-short (args .trace .now)), (said .1, said .2, said .3)))
+    let put = sheet-done (args .trace .now) (areasOf (args .blocks .now) (args .stretches .now) (args .counts .now)) _ (said .0) _ _ _ (matched .reads .given .1) _ (said .1 .2) _ (lined .before .size-in .ensures) (headed .put-heading .ensures .0) (lined .put-lines .ensures .0) in
+    (whole put, (omega (arith, lines-short (args .trace .now)), said .1))
 
 returns-2 : tie.Need-returns-2
 returns-2 c =
@@ -35,7 +35,7 @@ returns-2 c =
     let args = ran .before .before .before .before .before .before .before .before .before .args in
     let said = ran .run .ensures in
     let put = sheet-refused (args .trace .now) (areasOf (args .blocks .now) (args .stretches .now) (args .counts .now)) _ (said .0) _ _ (matched .why .given .1) _ (refused .before .refusal-number .ensures) (refused .put-refused .ensures .0) in
-    (whole put, (omega arith, (said .1, said .2, said .3)))
+    (whole put, (omega arith, said .1))
 
 pub sheet-spec : {M : Type 1} → statement M
 sheet-spec =

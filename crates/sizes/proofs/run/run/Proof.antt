@@ -29,7 +29,7 @@ returns : tie.Need-returns
 returns c =
     let args = c .before .before .before .before .before .before .before .before .before .before .args in
     rw (out-of-room (args .trace .now) _ (c .before .before .before .before .before .read-header .ensures) (areasOf (args .blocks .now) (args .stretches .now) (args .counts .now)) _ _ _ (c .before .before .before .size .given .1) _ (c .before .is-room .ensures) (c .if1 .taken))
-    (refl, refl, refl, refl)
+    (refl, (refl, refl, refl))
 
 pass-requires : tie.Need-pass-requires
 pass-requires c κs =
@@ -50,15 +50,16 @@ returns-2 c =
     let args = tested .before .before .before .before .before .before .before .before .before .before .args in
     let s = args .trace .now in
     let said = c .before .before .before .before .before .before .pass .ensures in
-    fronts-out (args .blocks .now) (args .stretches .now) (args .counts .now) _ (readsFrom (length s) s _) _
+    let out = fronts-out (args .blocks .now) (args .stretches .now) (args .counts .now) _ (readsFrom (length s) s _) _
     (out-passed s _ (tested .before .before .before .before .before .read-header .ensures) (areasOf (args .blocks .now) (args .stretches .now) (args .counts .now)) _ _ _ (tested .before .before .before .size .given .1) _ (tested .before .is-room .ensures) (tested .if1 .left))
-    _ _ _ _ _ (said .0) (said .1) (said .2) (said .3) (c .before .before .before .before .before .before .before .before .before .before .stretches-length .ensures)
+    _ _ _ _ _ (said .0) (said .1) (said .2) (said .3) (c .before .before .before .before .before .before .before .before .before .before .stretches-length .ensures) in
+    (out .0, (out .1, out .2, out .3))
 
 returns-3 : tie.Need-returns-3
 returns-3 c =
     let args = c .before .before .before .before .before .before .before .before .args in
     rw (out-refused (args .trace .now) _ (c .before .before .before .read-header .ensures) (areasOf (args .blocks .now) (args .stretches .now) (args .counts .now)) _ _ (c .before .why .given .1))
-    (refl, refl, refl, refl)
+    (refl, (refl, refl, refl))
 
 pub run-spec : {M : Type 1} → statement M
 run-spec =
