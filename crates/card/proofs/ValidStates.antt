@@ -10,7 +10,7 @@ use lib.Dec.{eqb}
 use lib.ListN.{length, take, drop, take-append-drop, length-append, length-replicate, replicate-append-replicate}
 use lib.Seq.{drop-at, take-at, length-take-le}
 use borrow.Author.Tests.{le-leb, eqb-true, ne-eqb}
-use Rattle.terms.specs.Reads.{Read, readOf}
+use Rattle.terms.specs.Reads.{Read, readOf, ReadOk, ReadsOk}
 use Rattle.terms.specs.Ranges.{inRange, size, volume, block, priority}
 use Rattle.card.specs.Rule.{keyOf, place, oneLower, afterRead}
 use Rattle.card.specs.Run.{blockRead, wanted, empty, next, run, cardAfter}
@@ -121,14 +121,6 @@ state-stays m places v b p room low ok = rw ok (go (inRange volume v) (inRange p
 
 -- ---- steps from the empty state
 
--- a read that no step refuses
-abbrev pub ReadOk : Read → Type 0
-ReadOk r = (inRange volume (r .volume) ≡ true) × (r .block ≤ block .largest) × (inRange priority (r .priority) ≡ true)
-
-abbrev pub ReadsOk : List Read → Type 0
-ReadsOk [] = Unit
-ReadsOk (r ∷ rs) = ReadOk r × ReadsOk rs
-
 -- the places after steps
 abbrev pub steps : ℕ → List ℕ → List Read → List ℕ
 steps m places [] = places
@@ -145,7 +137,7 @@ module _ (m k : ℕ) where
   steps-from (r ∷ rs) c e v ok =
       let here = step-next c r e v (ok .0) in
       ap (λ (l : List ℕ). steps m l rs) here
-      ∙ steps-from rs (next c r) (length-after c (blockRead r) (wanted r) (wanted-some r) ∙ e) (subst (Valid m) (whole c r e) (valid-after m (c ++ empty k) (omega (arith, length-append c (empty k))) v (blockRead r) (wanted r) (key-some r) (wanted-some r) (key-valid (r .volume) (r .block) (ok .0 .0) (ok .0 .1)))) (ok .1)
+      ∙ steps-from rs (next c r) (length-after c (blockRead r) (wanted r) (wanted-some r) ∙ e) (subst (Valid m) (whole c r e) (valid-after m (c ++ empty k) (omega (arith, length-append c (empty k))) v (blockRead r) (wanted r) (key-some r) (wanted-some r) (key-valid (r .volume) (r .block) (ok .0 .0) (in-range-most block (r .block) (ok .0 .1))))) (ok .1)
     where
       whole : (c : List ℕ) (r : Read) → length c ≡ m → afterRead (take m (c ++ empty k)) (blockRead r) (wanted r) ++ drop m (c ++ empty k) ≡ next c r ++ empty k
       whole c r e = rw (take-at c (empty k) m e, drop-at c (empty k) m e)

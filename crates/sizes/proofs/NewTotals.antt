@@ -1,5 +1,5 @@
 -- The total of stretches and the two peaks after one read more.
-use mathlib.Core.Path.{_≡_, refl, sym, ap, ap₂, _∙_}
+use mathlib.Core.Path.{_≡_, refl, sym, ap, _∙_}
 use mathlib.Core.Bool.{cond}
 use mathlib.Core.List.{List, [], _∷_, _++_, append-assoc}
 use Prim.Native.Nat.{ℕ, zero, suc, _+_, _-_, _*_, _≤_, max}
@@ -17,18 +17,12 @@ use Rattle.sizes.specs.Moves.{newOf}
 use Rattle.sizes.specs.Rows.{placesAt}
 use Rattle.sizes.specs.Totals.{Totals, sumTo, mostTo}
 use Rattle.sizes.proofs.PairLists.{stretches-same}
+use Rattle.sizes.proofs.RowCounts.{stretches-none}
+use Rattle.sizes.proofs.Exchanges.{sum-same, most-same}
 use Rattle.sizes.proofs.Families.{keyAt, family, placed, unplaced}
 use Rattle.sizes.proofs.NewPlaces.{new-places}
 
 -- ---- numbers of places 1 to n against numbers of a list
-
-pub sum-same : (n : ℕ) (f g : ℕ → ℕ) → ((k : ℕ) → 1 ≤ k → k ≤ n → f k ≡ g k) → sumTo n f ≡ sumTo n g
-sum-same zero f g h = refl
-sum-same (suc n) f g h = ap₂ (λ (a b : ℕ). a + b) (sum-same n f g (λ k a b. h k a (omega arith))) (h (suc n) (omega arith) (omega arith))
-
-pub most-same : (n : ℕ) (f g : ℕ → ℕ) → ((k : ℕ) → 1 ≤ k → k ≤ n → f k ≡ g k) → mostTo n f ≡ mostTo n g
-most-same zero f g h = refl
-most-same (suc n) f g h = ap₂ max (most-same n f g (λ k a b. h k a (omega arith))) (h (suc n) (omega arith) (omega arith))
 
 sum-front : (n : ℕ) (f : ℕ → ℕ) → sumTo (suc n) f ≡ f 1 + sumTo n (λ k. f (suc k))
 sum-front zero f = omega arith
@@ -49,20 +43,16 @@ behind f x xs (suc k) h =
 sum-list : (f : ℕ → ℕ) (c : List ℕ) → sumOver f c ≡ sumTo (length c) (λ k. f (getD c (k - 1) 0))
 sum-list f [] = refl
 sum-list f (x ∷ xs) =
-    ap (λ (n : ℕ). f x + n) (sum-list f xs ∙ sum-same (length xs) (λ k. f (getD xs (k - 1) 0)) (λ k. f (getD (x ∷ xs) (suc k - 1) 0)) (λ k a b. behind f x xs k a))
+    ap (λ (n : ℕ). f x + n) (sum-list f xs ∙ sum-same (λ k. f (getD xs (k - 1) 0)) (λ k. f (getD (x ∷ xs) (suc k - 1) 0)) (length xs) (λ k a b. behind f x xs k a))
     ∙ sym (sum-front (length xs) (λ k. f (getD (x ∷ xs) (k - 1) 0)))
 
 most-list : (f : ℕ → ℕ) (c : List ℕ) → largestOver f c ≡ mostTo (length c) (λ k. f (getD c (k - 1) 0))
 most-list f [] = refl
 most-list f (x ∷ xs) =
-    ap (λ (n : ℕ). max (f x) n) (most-list f xs ∙ most-same (length xs) (λ k. f (getD xs (k - 1) 0)) (λ k. f (getD (x ∷ xs) (suc k - 1) 0)) (λ k a b. behind f x xs k a))
+    ap (λ (n : ℕ). max (f x) n) (most-list f xs ∙ most-same (λ k. f (getD xs (k - 1) 0)) (λ k. f (getD (x ∷ xs) (suc k - 1) 0)) (length xs) (λ k a b. behind f x xs k a))
     ∙ sym (most-front (length xs) (λ k. f (getD (x ∷ xs) (k - 1) 0)))
 
 -- ---- the stretches of the largest card's blocks
-
-stretches-zero : (f : ℕ → ℕ) (n : ℕ) → ((m : ℕ) → f m ≡ 0) → stretches f n ≡ 0
-stretches-zero f zero h = refl
-stretches-zero f (suc n) h = rw (h n, h (suc n)) (omega (arith, stretches-zero f n h))
 
 module _ (n : ℕ) (rs : List Read) where
   own-stretches : (k : ℕ) → 1 ≤ k → cond (eqb (getD (cardAfter n rs) (k - 1) 0) 0) 0 (stretches (placesOf rs (getD (cardAfter n rs) (k - 1) 0)) n) ≡ stretches (family rs n k) n
@@ -70,7 +60,7 @@ module _ (n : ℕ) (rs : List Read) where
   own-stretches (suc i) h =
       let e : suc i - 1 ≡ i = omega arith in
       rw e (by-eq (keyAt rs n i) 0
-      (λ z. simp tests (sym (stretches-zero (placesAt rs n i) n (unplaced rs n i z))))
+      (λ z. simp tests (sym (stretches-none (placesAt rs n i) n (unplaced rs n i z))))
       (λ z. simp tests (stretches-same (placesOf rs (keyAt rs n i)) (placesAt rs n i) n (λ m a. sym (placed rs n i z m)))))
 
   abbrev own : ℕ → ℕ
@@ -80,13 +70,13 @@ module _ (n : ℕ) (rs : List Read) where
   total-family =
       total-places n rs ∙ sum-list own (cardAfter n rs)
       ∙ ap (λ (l : ℕ). sumTo l (λ k. own (getD (cardAfter n rs) (k - 1) 0))) (length-card n rs)
-      ∙ sum-same n (λ k. own (getD (cardAfter n rs) (k - 1) 0)) (λ k. stretches (family rs n k) n) (λ k a b. own-stretches k a)
+      ∙ sum-same (λ k. own (getD (cardAfter n rs) (k - 1) 0)) (λ k. stretches (family rs n k) n) n (λ k a b. own-stretches k a)
 
   most-family : mostOfOne n rs ≡ mostTo n (λ k. stretches (family rs n k) n)
   most-family =
       most-places n rs ∙ most-list own (cardAfter n rs)
       ∙ ap (λ (l : ℕ). mostTo l (λ k. own (getD (cardAfter n rs) (k - 1) 0))) (length-card n rs)
-      ∙ most-same n (λ k. own (getD (cardAfter n rs) (k - 1) 0)) (λ k. stretches (family rs n k) n) (λ k a b. own-stretches k a)
+      ∙ most-same (λ k. own (getD (cardAfter n rs) (k - 1) 0)) (λ k. stretches (family rs n k) n) n (λ k a b. own-stretches k a)
 
 -- ---- peaks
 
@@ -132,8 +122,8 @@ module _ (n : ℕ) (rs : List Read) (r : Read) where
       → (lost ≤ now + gained) × Totals n (rs ++ (r ∷ [])) (now + gained - lost) (max most (now + gained - lost)) (max one longest)
   totals-more now most one gained lost longest t e g =
       let old = t .now-is ∙ total-family n rs in
-      let new = total-family n (rs ++ (r ∷ [])) ∙ sum-same n _ changed changed-is in
-      let big = most-family n (rs ++ (r ∷ [])) ∙ most-same n _ changed changed-is in
+      let new = total-family n (rs ++ (r ∷ [])) ∙ sum-same _ changed n changed-is in
+      let big = most-family n (rs ++ (r ∷ [])) ∙ most-same _ changed n changed-is in
       let same : now + gained - lost ≡ total n (rs ++ (r ∷ [])) = omega arith in (
         omega arith,
         record {
@@ -150,10 +140,10 @@ sum-low zero b f h = omega arith
 sum-low (suc n) b f h = omega (arith, sum-low n b f (λ k p q. h k p (omega arith)), h (suc n) (omega arith) (omega arith))
 
 family-half : (n : ℕ) (rs : List Read) (k : ℕ) → stretches (family rs n k) n ≤ half n
-family-half n rs zero = omega (arith, stretches-zero (family rs n zero) n (λ m. refl))
+family-half n rs zero = omega (arith, stretches-none (family rs n zero) n (λ m. refl))
 family-half n rs (suc i) =
     by-eq (keyAt rs n i) 0
-    (λ e. omega (arith, stretches-zero (placesAt rs n i) n (unplaced rs n i e)))
+    (λ e. omega (arith, stretches-none (placesAt rs n i) n (unplaced rs n i e)))
     (λ e. omega (arith, stretches-half rs (keyAt rs n i) n (omega arith), stretches-same (placesAt rs n i) (placesOf rs (keyAt rs n i)) n (λ m a. placed rs n i e m)))
 
 pub total-low : (n : ℕ) (rs : List Read) → total n rs ≤ n * half n

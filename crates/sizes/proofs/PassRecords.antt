@@ -13,7 +13,7 @@ use borrow.Rule.Slice.PartAt.{part-to-end}
 use Rattle.terms.specs.declared.Refusal.{Refusal}
 use Rattle.terms.specs.Refusals.{numberOf}
 use Rattle.terms.specs.Ranges.{Range, inRange, volume, block, priority}
-use Rattle.terms.specs.Reads.{Read, readOf}
+use Rattle.terms.specs.Reads.{Read, readOf, ReadOk}
 use Rattle.trace.specs.declared.record.Record.{Record}
 use Rattle.trace.specs.declared.record.Record.the-variants as the-record
 use Rattle.trace.specs.Number.{Numeral, Value, Fault, numeral, numberAt, topByte, bytesBefore}
@@ -22,7 +22,7 @@ use Rattle.trace.specs.Answers.{recordAnswer}
 use Rattle.trace.proofs.Numbers.{Holds}
 use Rattle.trace.proofs.Fields.{NumberIn, number-in}
 use Rattle.trace.proofs.Ends.{Within, record-within}
-use Rattle.trace.proofs.OneSpelling.{Gives, gives-field, ReadOk}
+use Rattle.trace.proofs.OneSpelling.{Gives, gives-field}
 use Rattle.card.specs.Rule.{keyOf}
 use Rattle.card.specs.Run.{blockRead}
 use Rattle.card.proofs.Tests.{and-both}

@@ -5,10 +5,11 @@ use Prim.Native.Nat.{ℕ, zero, suc, _+_, _*_, _<_}
 use native.Mathlib.Omega.{arith}
 use lib.ListN.{length, getD, length-replicate, getD-replicate}
 use Rattle.card.specs.Stretches.{total}
-use Rattle.sizes.specs.Rows.{pairs, rowLength, placesAt, Held}
+use Rattle.sizes.specs.Rows.{rowLength, placesAt, Held}
 use Rattle.sizes.specs.Tallies.{upTo, Tallied}
 use Rattle.sizes.specs.Totals.{Totals}
 use Rattle.sizes.specs.Outcome.{zeros, stretchesLength, countsLength}
+use Rattle.sizes.proofs.RowLaws.{pairs-none}
 
 pub zeros-at : (n x : ℕ) → getD (zeros n) x 0 ≡ 0
 zeros-at zero x = refl
@@ -17,12 +18,6 @@ zeros-at (suc n) (suc x) = zeros-at n x
 
 pub zeros-length : (s : List ℕ) (n : ℕ) → s ≡ zeros n → length s ≡ n
 zeros-length s n e = rw e (length-replicate {A = ℕ} n 0)
-
--- a block that is nowhere has no stretch
-pairs-none : (places : ℕ → ℕ) (n : ℕ) → ((m : ℕ) → places m ≡ 0) → pairs places n ≡ []
-unfolding pairs
-pairs-none places zero h = refl
-pairs-none places (suc n) h = rw (pairs-none places n h, h (suc n))
 
 places-none : (n i : ℕ) → i < n → (m : ℕ) → placesAt [] n i m ≡ 0
 places-none n i h m = rw (getD-replicate {A = ℕ} n i 0 0 h)

@@ -14,6 +14,7 @@ use Rattle.sizes.specs.Rows.{pairs, rowLength, Row}
 use Rattle.sizes.specs.Renewals.{Kept}
 use Rattle.sizes.proofs.PairLaws.{taken-cases, put-low, pairs-zero, pairs-flat, pairs-start, pairs-cases, after-absent}
 use Rattle.sizes.proofs.PairFacts.{two, pairs-fit, falls, entries, in-list}
+use Rattle.sizes.proofs.RowLaws.{untouched}
 use Rattle.sizes.proofs.RowSkips.{first-bound}
 
 -- ---- each place one less
@@ -101,7 +102,7 @@ pub record Raising (area₀ area : List ℕ) (from at width h : ℕ) : Type 0 wh
 pub raising-none : (area : List ℕ) (from at width : ℕ) → Raising area area from at width 0
 raising-none area from at width = record {
   inside = omega arith;
-  kept = record { size = refl; below = λ x h. refl; above = λ x h. refl };
+  kept = untouched area at (2 * 0);
   firsts = λ x h. absurd (omega arith);
   places = λ x h. absurd (omega arith);
   some = λ x h. absurd (omega arith);

@@ -12,7 +12,7 @@ use lib.Dec.{ltb, leb}
 use borrow.Author.Tests.{le-ltb, ltb-true, ltb-false}
 use Rattle.terms.specs.Ranges.{Range, inRange, edition, size, volume, block, priority}
 use Rattle.trace.specs.Number.{Numeral, Value, Fault, after, numeral, numberAt, topByte, bytesBefore}
-use Rattle.terms.specs.Reads.{Read}
+use Rattle.terms.specs.Reads.{ReadOk}
 use Rattle.trace.specs.Reading.{Reading, Given, Refused, tested, field, Header, headerAt, recordAt}
 use Rattle.trace.specs.Spelling.{spell, spelling, spellings, headerValues, readValues, Bytes}
 use Rattle.terms.specs.declared.Refusal.the-variants.{Form}
@@ -103,9 +103,6 @@ module _ {A : Type 0} where
 -- the fields are in their ranges
 abbrev pub HeaderOk : Header → Type 0
 HeaderOk h = (inRange edition (h .edition) ≡ true) × (inRange size (h .size) ≡ true)
-
-abbrev pub ReadOk : Read → Type 0
-ReadOk r = (inRange volume (r .volume) ≡ true) × (inRange block (r .block) ≡ true) × (inRange priority (r .priority) ≡ true)
 
 pub header-spelled : (s : List ℕ) → Bytes s → (at : ℕ) → Gives (λ h end. Spells s at end (headerValues h) × HeaderOk h) (headerAt s at)
 unfolding headerAt

@@ -11,7 +11,7 @@ use lib.Dec.{ltb, leb}
 use borrow.Author.Tests.{le-ltb, le-leb, leb-true, ltb-false}
 use Rattle.terms.specs.Ranges.{Range, inRange, edition, size, volume, block, priority}
 use Rattle.trace.specs.Number.{Value, numeral, numberAt, topByte, bytesBefore}
-use Rattle.terms.specs.Reads.{Read}
+use Rattle.terms.specs.Reads.{Read, ReadOk}
 use Rattle.trace.specs.Reading.{Reading, Given, field, Header, headerAt, recordAt}
 use Rattle.trace.specs.Spelling.{spell, spelling, spellings, headerValues, readValues}
 use Rattle.trace.specs.Writing.{Writing, Length, Refused, ranged, spaced, put, headerWriting, recordWriting}
@@ -19,7 +19,7 @@ use Rattle.trace.specs.Bounds.{limit, numberLimit}
 use Rattle.trace.proofs.Numbers.{after-value}
 use Rattle.trace.proofs.Spellings.{length-cons}
 use Rattle.trace.proofs.Writings.{in-range-low, ranges-low}
-use Rattle.trace.proofs.OneSpelling.{HeaderOk, ReadOk}
+use Rattle.trace.proofs.OneSpelling.{HeaderOk}
 
 -- ---- a number
 

@@ -6,13 +6,13 @@ use native.Mathlib.Omega.{arith}
 use lib.ListN.{length, drop, length-drop, length-append, drop-of-length-le}
 use lib.Dec.{leb}
 use borrow.Author.Tests.{le-leb, lt-leb, leb-true}
-use Rattle.terms.specs.Reads.{Read}
+use Rattle.terms.specs.Reads.{Read, ReadOk, ReadsOk}
 use Rattle.trace.specs.Reading.{Reading, Given, Refused, Header, headerAt, recordAt}
 use Rattle.trace.specs.Spelling.{spellings, headerValues, readValues, recordsSpelling, traceSpelling, Bytes}
 use Rattle.trace.specs.Trace.{andThen, readsFrom, Trace, traceOf}
 use Rattle.trace.proofs.Spellings.{length-cons, spelling-short}
 use Rattle.trace.proofs.Ends.{Within, header-within, record-within}
-use Rattle.trace.proofs.OneSpelling.{Spells, Gives, gives-cond, HeaderOk, ReadOk, header-spelled, record-spelled}
+use Rattle.trace.proofs.OneSpelling.{Spells, Gives, gives-cond, HeaderOk, header-spelled, record-spelled}
 use Rattle.trace.proofs.RoundTrip.{drop-past, header-back, record-back}
 
 -- ---- one reading after another
@@ -33,10 +33,6 @@ module _ {A : Type 0} where
   gives-ended from room P (Refused number place) w h = tt
 
 -- ---- records to the end
-
-abbrev pub ReadsOk : List Read → Type 0
-ReadsOk [] = Unit
-ReadsOk (r ∷ rs) = ReadOk r × ReadsOk rs
 
 -- from a place to the end of the bytes stand the records of reads
 abbrev Recorded : List ℕ → ℕ → List Read → ℕ → Type 0
