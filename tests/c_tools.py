@@ -29,3 +29,9 @@ def linked(program, *units):
     linker = ['-pie', '-rpath', LIBRARIES, '-dynamic-linker', LOADER]
     subprocess.run([TOOLS / 'ld.lld', *linker, *start, *units, *rest, '-o', program], check=True)
     return program
+
+
+def shared(library, unit):
+    """A library that a loader can put before a program's own."""
+    subprocess.run([TOOLS / 'ld.lld', '-shared', unit, LIBRARIES / 'libc.so.6', '-o', library], check=True)
+    return library

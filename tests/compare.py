@@ -15,6 +15,11 @@ class Tally:
         self.failed += 1
         print('%s\nwant %.300s\nhave %.300s' % (what, repr(want), repr(have)))
 
+    def end(self):
+        """Prints the sum; the exit status. Nothing compared is no success."""
+        print('%d passed, %d failed' % (self.passed, self.failed))
+        return 1 if self.failed or not self.passed else 0
+
 
 def report(worked, crate):
     """Says which lines differ from the crate's stored output, and counts; answers the exit status."""

