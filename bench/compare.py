@@ -12,19 +12,28 @@ import sys
 import counting
 import traces
 
-PROVED, SEPARATE, ONE_PASS, INTERVAL = 'a', 'b', 'c', 'd'
-ROW = '%4s %-4s %-9s %6s %8s %8s %8s %8s %7s %6s %6s'
+PROVED = 'a'
+# the programs in C, each with its file and its options, and how it is told
+IN_C = {
+    'b': ('separate.c', '', 'separate simulations'),
+    'e': ('separate.c', '-DINCLUSION=1', 'as b with inclusion'),
+    'f': ('indexed.c', '', 'as b with an index'),
+    'g': ('indexed.c', '-DINCLUSION=1', 'as e with an index'),
+    'c': ('one_pass.c', '', 'one pass in C'),
+    'd': ('one_pass.c', '-DINTERVAL=1', 'as c with the interval'),
+}
+WITHOUT_PEAKS = 'befg'
+# each ratio that is told, and which end of it is the worst for the proved run
+RATIOS = {'b/a': 'least', 'e/a': 'least', 'f/a': 'least', 'g/a': 'least', 'a/c': 'largest', 'a/d': 'largest'}
+ENDS = {'least': min, 'largest': max}
+ROW = '%4s %-4s %-9s %6s' + (1 + len(IN_C)) * ' %7s' + len(RATIOS) * ' %6s'
 
 
 def programs():
-    """The four programs; the proved one is built, and proved where that was not done yet."""
+    """All programs; the proved one is built, and proved where that was not done yet."""
     subprocess.run(['rt', 'check', 'sizes_test'], cwd=counting.kit.ROOT, stdout=subprocess.DEVNULL, check=True)
-    return {
-        PROVED: counting.kit.ROOT / 'target' / 'bin' / 'sizes_test',
-        SEPARATE: counting.built('separate', 'separate.c'),
-        ONE_PASS: counting.built('one_pass', 'one_pass.c'),
-        INTERVAL: counting.built('one_pass_interval', 'one_pass.c', '-DINTERVAL=1'),
-    }
+    built = {name: counting.built(name, source, *options.split()) for name, (source, options, _) in IN_C.items()}
+    return {PROVED: counting.kit.ROOT / 'target' / 'bin' / 'sizes_test', **built}
 
 
 def answer(line, size):
@@ -41,7 +50,7 @@ def agree(answers, workload):
     """Ends everything where two programs differ; separate simulations know no peaks."""
     (reads, *peaks), counts = answers[PROVED]
     for name, ((other_reads, *other_peaks), other_counts) in answers.items():
-        known = name == SEPARATE or other_peaks == peaks
+        known = name in WITHOUT_PEAKS or other_peaks == peaks
         if other_reads != reads or other_counts != counts or not known:
             raise RuntimeError('%s and %s differ on N = %d, pool %s, priorities %s' % (PROVED, name, *workload))
 
@@ -63,13 +72,14 @@ def measured(task):
     return {name: (counts[name] - empty[name]) / reads for name in paths}
 
 
-def ratios(cost):
-    return cost[SEPARATE] / cost[PROVED], cost[PROVED] / cost[ONE_PASS], cost[PROVED] / cost[INTERVAL]
+def ratio(name, cost):
+    over, under = name.split('/')
+    return cost[over] / cost[under]
 
 
 def show(workload, cost):
-    costs = ['%.0f' % cost[name] for name in (PROVED, SEPARATE, ONE_PASS, INTERVAL)]
-    factors = ['%.2f' % ratio for ratio in ratios(cost)]
+    costs = ['%.0f' % instructions for instructions in cost.values()]
+    factors = ['%.2f' % ratio(name, cost) for name in RATIOS]
     print(ROW % (*workload, traces.READS[workload[0]], *costs, *factors), flush=True)
 
 
@@ -78,10 +88,10 @@ def mean(values):
 
 
 def summary(size, costs):
-    gain, plain, interval = zip(*map(ratios, costs))
-    print('N = %d: b/a least %.2f, geometric mean %.2f; a/c largest %.2f, geometric mean %.2f; '
-          'a/d largest %.2f, geometric mean %.2f'
-          % (size, min(gain), mean(gain), max(plain), mean(plain), max(interval), mean(interval)))
+    found = {name: [ratio(name, cost) for cost in costs] for name in RATIOS}
+    told = ['%s %s %.2f, geometric mean %.2f' % (name, end, ENDS[end](found[name]), mean(found[name]))
+            for name, end in RATIOS.items()]
+    print('N = %d: %s' % (size, '; '.join(told)))
 
 
 def main(sizes):
@@ -89,8 +99,9 @@ def main(sizes):
         raise SystemExit('no way to count instructions: needs valgrind on x86-64, and the kit\'s emulator elsewhere')
     paths = programs()
     workloads = [(n, pool, kind) for n in sizes for pool in traces.POOLS for kind in traces.PRIORITIES]
-    print('Instructions per read: a proved run, b separate simulations, c one pass in C, d as c with the interval')
-    print(ROW % ('N', 'pool', 'priority', 'reads', 'a', 'b', 'c', 'd', 'b/a', 'a/c', 'a/d'))
+    told = ', '.join('%s %s' % (name, words) for name, (*_, words) in IN_C.items())
+    print('Instructions per read: %s proved run, %s' % (PROVED, told))
+    print(ROW % ('N', 'pool', 'priority', 'reads', *paths, *RATIOS))
     costs = {n: [] for n in sizes}
     empty = {n: counted(paths, n, traces.header(n))[0] for n in sizes}
     with multiprocessing.Pool(os.cpu_count()) as pool:
