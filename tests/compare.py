@@ -1,6 +1,11 @@
-"""Compares what the tests have with what they want: values one by one, or lines with a crate's stored output."""
-import pathlib
+"""Compares what the tests have with what they want: values one by one, or lines with a crate's stored output.
 
+With UNTIL_FIRST set in the environment a test ends at the first failure, with its sum so far."""
+import os
+import pathlib
+import sys
+
+UNTIL_FIRST = 'UNTIL_FIRST' in os.environ
 CRATES = pathlib.Path(__file__).resolve().parent.parent / 'crates'
 
 
@@ -14,6 +19,8 @@ class Tally:
             return
         self.failed += 1
         print('%s\nwant %.300s\nhave %.300s' % (what, repr(want), repr(have)))
+        if UNTIL_FIRST:
+            sys.exit(self.end())
 
     def end(self):
         """Prints the sum; the exit status. Nothing compared is no success."""

@@ -12,6 +12,7 @@ import tty
 import c_tools
 import kit
 
+PATIENCE = 200  # seconds: a command that takes longer hangs
 FOLDER = kit.ROOT / 'target' / 'edges'
 WORKED = bytes.fromhex('0103010a01010b02010c03010a03010b03010d02010c04010d01')
 WORKED_SHEET = 'accesses 8 stretches 3 block 2\n1 7 0 0 0 1 2 5\n2 5 1 0 0 2 3 2\n3 4 0 1 2 1 4 0\n'
@@ -25,7 +26,7 @@ def ended(command, redirections='', given=None, **more):
         command = ['bash', '-c', '"$@" ' + redirections, 'bash', *command]
     if 'stdin' not in more:
         more['input'] = given or b''
-    ran = subprocess.run(list(map(str, command)), stdout=subprocess.PIPE, stderr=subprocess.PIPE, timeout=600, **more)
+    ran = subprocess.run(list(map(str, command)), stdout=subprocess.PIPE, stderr=subprocess.PIPE, timeout=PATIENCE, **more)
     return ran.returncode, ran.stdout.decode(), ran.stderr.decode()
 
 

@@ -3,7 +3,6 @@
     python3 tests/layout.py [GATE]
 
 The gate is run in a folder of its own, with an `rt` and tests that end as each case says."""
-import ast
 import os
 import pathlib
 import re
@@ -76,8 +75,8 @@ def check_stored(tally, folder):
 
 
 def is_test(path):
-    """A host test can be run by itself and ends in its status."""
-    return any(isinstance(node, ast.Attribute) and node.attr == 'exit' for node in ast.walk(ast.parse(path.read_text())))
+    """A host test can be run by itself, and ends with a status."""
+    return re.search(r'^(if __name__ ==.*\n    )?sys\.exit\(', path.read_text(), re.MULTILINE) is not None
 
 
 def check_parts(tally, gate):

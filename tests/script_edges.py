@@ -1,13 +1,11 @@
 """The script ./sheet as a user meets it: how it is called, what it is given, and what fails around it.
 
-    python3 tests/script_edges.py [ROOT]
+    python3 tests/script_edges.py [SCRIPT]
 
-ROOT is the folder with the script, the repository's own if it is left out. What stands in for the kit and for the
-program is in tests/script_stand_ins.py, for faults that the real ones do not have."""
+tests/script_kit.py has what goes wrong in the kit and in the program that the script runs."""
 import os
 import pathlib
 import pty
-import subprocess
 import sys
 import tempfile
 
@@ -46,7 +44,7 @@ def check_inputs(tally, script, folder):
                        ('a pipe', 'cat "$2" | "$1"'), ('process substitution', '"$1" <(cat "$2")'),
                        ('a descriptor', '"$1" /dev/fd/3 3<"$2"'), ('a file with no standard input', '"$1" "$2" <&-'),
                        ('no standard error', '"$1" "$2" 2>&-'),
-                       ('a fifo', 'mkfifo "$2.fifo"; cat "$2" >"$2.fifo" & "$1" "$2.fifo"')):
+                       ('a fifo', 'mkfifo "$2.fifo"; (cat "$2" >"$2.fifo") >/dev/null 2>&1 & "$1" "$2.fifo"')):
         tally.equal(what, edges.ended(shell[:2] + [line] + shell[3:]), RIGHT)
     for what, have in edges.slow_inputs([script]):
         tally.equal(what, have, RIGHT)
@@ -79,14 +77,11 @@ def check_help(tally, script):
 
 
 def check_terminal(tally, script):
-    """On a terminal with nothing redirected it says what it waits for; the end of the input is typed."""
+    """On a terminal with nothing redirected it says what it waits for; the end of the input is typed ahead."""
     ours, theirs = pty.openpty()
     with os.fdopen(theirs) as terminal, os.fdopen(ours, 'wb', 0) as typist:
-        running = subprocess.Popen([script], stdin=terminal, stdout=subprocess.PIPE, stderr=subprocess.PIPE, text=True)
-        said = running.stderr.readline()
         typist.write(b'\x04')
-        shown, rest = running.communicate(timeout=60)
-    tally.equal('a terminal', (running.returncode, shown, said + rest), (1, 'refused 1 at 0\n', WAITING))
+        tally.equal('a terminal', edges.ended([script], stdin=terminal), (1, 'refused 1 at 0\n', WAITING))
 
 
 def check_failed_inputs(tally, script):
@@ -110,8 +105,8 @@ def check_failed_outputs(tally, script, folder):
     tally.equal('no folder for scratch files', edges.ended([script, day], env=dict(os.environ, TMPDIR='/nowhere')), RIGHT)
 
 
-def main(root=kit.ROOT):
-    tally, script = compare.Tally(), pathlib.Path(root).resolve() / 'sheet'
+def main(script=kit.ROOT / 'sheet'):
+    tally, script = compare.Tally(), pathlib.Path(script).absolute()
     with tempfile.TemporaryDirectory() as name:
         folder = pathlib.Path(name)
         check_names(tally, script, folder)

@@ -151,13 +151,16 @@ def check_together(tally, desk):
 
 def check_unwritable(tally, desk):
     """Where nothing can be written down, nothing is believed of what lies there."""
-    log = desk.root / 'target' / 'log'
-    for place in (desk.root.parent, desk.root, log):
-        place.chmod(0o555 if place == log else 0o777)
+    target = desk.root / 'target'
     somebody = {'user': 65534, 'group': 65534} if os.geteuid() == 0 else {}
-    said = 'sheet: nothing can be proved here: %s cannot be written\n'
-    place = desk.root / 'target' if somebody else log
-    tally.equal('a folder that cannot be written', desk.ended(**somebody), (2, '', said % place))
+    for place in (desk.root.parent, desk.root, target, target / 'log', target / 'stamp'):
+        place.chmod(0o777)
+    tally.equal('folders that can be written', desk.ended(**somebody), (0, edges.WORKED_SHEET, ''))
+    for place in (target / 'log', target / 'stamp', target):
+        place.chmod(0o555)
+        said = 'sheet: nothing can be proved here: %s cannot be written\n' % place
+        tally.equal('%s cannot be written' % place.name, desk.ended(**somebody), (2, '', said))
+        place.chmod(0o777)
 
 
 def check_sources(tally, desk):

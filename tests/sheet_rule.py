@@ -21,7 +21,7 @@ def reads_of(data, at):
     return reads, None
 
 
-def sheet(data, simulate=sizes_rule.simulate):
+def sheet(data):
     """What the program has to print."""
     if len(data) > LARGEST_INPUT:
         return refused(LARGE, LARGEST_INPUT)
@@ -31,7 +31,7 @@ def sheet(data, simulate=sizes_rule.simulate):
     reads, refusal = reads_of(data, head[3])
     if refusal:
         return refused(*refusal)
-    counts, total, one = simulate(head[2], reads)
+    counts, total, one = sizes_rule.simulate(head[2], reads)
     lines = ['accesses %d stretches %d block %d' % (len(reads), total, one)]
     for size in range(1, head[2] + 1):
         six = counts[6 * size - 6:6 * size]

@@ -22,10 +22,6 @@ def case(data, lent, value=9):
     cases.append((data, lent, value))
 
 
-def trace(size, reads):
-    return b''.join(map(form.spell, (1, size, *(number for read in reads for number in read))))
-
-
 def fill():
     case(WORKED, rule.stated(3))
     case(WORKED, [length + 2 for length in rule.stated(3)])
@@ -33,17 +29,17 @@ def fill():
         case(WORKED, [length - (short == area) for area, length in enumerate(rule.stated(3))])
     # after each read of the paper's trace the peaks tell its spans
     for time in range(len(PAPER) + 1):
-        case(trace(7, [(0, block, priority) for block, priority in PAPER[:time]]), rule.stated(7))
+        case(form.trace(7, [(0, block, priority) for block, priority in PAPER[:time]]), rule.stated(7))
     for size in (4, 5, 6):
-        case(trace(size, [(0, block, priority) for block, priority in PAPER]), rule.stated(size))
-    case(trace(2, ((1, 7, 1), (2, 7, 1))), rule.stated(2))
-    case(trace(3, ((0, 10, 3), (0, 11, 3))), rule.stated(3))
+        case(form.trace(size, [(0, block, priority) for block, priority in PAPER]), rule.stated(size))
+    case(form.trace(2, ((1, 7, 1), (2, 7, 1))), rule.stated(2))
+    case(form.trace(3, ((0, 10, 3), (0, 11, 3))), rule.stated(3))
     for text in BORDERS:
         case(bytes.fromhex(text), rule.stated(3))
     # a fault after reads leaves zeros, whatever the reads left
     case(WORKED + b'\x01', rule.stated(3))
     case(WORKED + bytes.fromhex('010a00'), rule.stated(3), 255)
-    case(trace(127, ((65535, 2 ** 32 - 1, 127), (0, 0, 16383))), rule.stated(127))
+    case(form.trace(127, ((65535, 2 ** 32 - 1, 127), (0, 0, 16383))), rule.stated(127))
 
 
 fill()

@@ -2,6 +2,8 @@
 
 A second reading of the rules: tests/trace_format.py reads the trace and tests/card_rule.py holds each card.
 """
+import collections
+
 import card_rule as rule
 import trace_format as form
 
@@ -9,13 +11,14 @@ ROOM = 7
 LENT = (130, 16300, 770)  # the lengths of the areas of crates/sizes_test
 
 
-def stretches(places):
-    """How many stretches a block with these places over rising sizes has; 0 is absent."""
-    before, found = 0, 0
-    for place in places:
-        if place and place != before:
-            found += 1
-        before = place
+def stretches(cards):
+    """The block of each stretch: one begins where the next smaller card does not hold the block at the same place."""
+    smaller, found = [], []
+    for card in cards:
+        # most cards are alike, and a comparison of lists is quicker
+        if card[:-1] != smaller or card[-1] is not None:
+            found += [block for block, other in zip(card, smaller + [None]) if block is not None and block != other]
+        smaller = card
     return found
 
 
@@ -23,14 +26,15 @@ def simulate(size, reads):
     """The counts of sizes 1 to N, each run on its own, and the two peaks."""
     cards = [[None] * m for m in range(1, size + 1)]
     counts = [[0] * 6 for _ in cards]
+    numbers = {}  # small numbers stand for the blocks: they are compared very often
     total_peak = one_peak = 0
     for volume, block, priority in reads:
+        number = numbers.setdefault((volume, block), len(numbers))
         for card, count in zip(cards, counts):
-            count[rule.read(card, (volume, block), priority)] += 1
-        found = {name for card in cards for name in card if name is not None}
-        lengths = [stretches([card.index(name) + 1 if name in card else 0 for card in cards]) for name in found]
-        total_peak = max(total_peak, sum(lengths))
-        one_peak = max([one_peak] + lengths)
+            count[rule.read(card, number, priority)] += 1
+        found = stretches(cards)
+        total_peak = max(total_peak, len(found))
+        one_peak = max(one_peak, *collections.Counter(found).values(), 0)
     return sum(counts, []), total_peak, one_peak
 
 

@@ -1,28 +1,61 @@
 """Runs over many traces, valid and damaged, against a simulation of each size on its own.
 
-The program crates/sizes_test is handed batches of cases; what it prints of each, the answer, how far the lent areas
-were changed and the counts, is compared with what tests/sizes_rule.py makes of the case.
+    python3 tests/sizes_runs.py [PROGRAM]
+
+The program, crates/sizes_test where no other is named, is handed batches of cases; what it prints of each, the answer,
+how far the lent areas were changed and the counts, is compared with what tests/sizes_rule.py makes of the case.
 """
+import os
 import random
 import sys
 
+import compare
 import kit
 import sizes_rule as rule
 import trace_format as form
 
 BATCH = 60000
+SMALL_CASES, SMALL_SIZE = 2500, 12
+CLIMBS = (12, 13, 40, 77, 127)
+LONG_READS = 14000
+
+
+def some_block(pick, volumes, pool):
+    """A volume and a block, now and then with one bit changed: it is another block, whichever bit that is."""
+    volume, block, kind = pick.randrange(volumes), pick.randrange(pool), pick.randrange(10)
+    if kind == 0:
+        volume ^= 1 << pick.randrange(16)
+    if kind == 1:
+        block ^= 1 << pick.randrange(32)
+    return volume, block
 
 
 def make_trace(pick, size, length):
     volumes = pick.choice((1, 1, 3))
     pool = pick.choice((size // 2 + 1, 2 * size, 8 * size))
     kind = pick.choice(('one', 'small', 'half', 'size', 'twice', 'any', 'mostly one'))
-    top = {'one': 1, 'small': max(1, size // 8), 'half': max(1, size // 2), 'size': size, 'twice': 2 * size, 'any': 16383, 'mostly one': size}[kind]
-    data = form.spell(1) + form.spell(size)
+    tops = {'one': 1, 'small': max(1, size // 8), 'half': max(1, size // 2), 'twice': 2 * size, 'any': 16383}
+    top = tops.get(kind, size)
+    reads = []
     for _ in range(length):
         priority = 1 if kind == 'mostly one' and pick.random() < 0.9 else pick.randint(1, top)
-        data += form.spell(pick.randrange(volumes)) + form.spell(pick.randrange(pool)) + form.spell(priority)
-    return data
+        reads.append((*some_block(pick, volumes, pool), priority))
+    return form.trace(size, reads)
+
+
+def climb(pick, size, more):
+    """One block gets as many stretches as any can have, half of the sizes; then more reads by chance.
+
+    The blocks of volume 2 come up by half when those of volume 1 go, and each is present only at sizes from its old
+    place on. So when they go, one after the other, those of volume 3 come up at these sizes alone."""
+    half, past = (size + 1) // 2, size + 1
+    reads = [(1, i, i) for i in range(1, half + 1)]
+    reads += [(2, i, half + i) for i in range(1, half)]
+    reads += [(1, i, past) for i in range(1, half + 1)]
+    reads += [(3, i, i) for i in range(half, size + 1)]
+    reads += [(2, i, past) for i in range(1, half)]
+    reads += [(pick.choice((1, 2, 3, 3, 4)), pick.randint(1, size), pick.randint(1, size + 2)) for _ in range(more)]
+    return form.trace(size, reads)
 
 
 def damaged(pick, data):
@@ -40,9 +73,9 @@ def damaged(pick, data):
     return bytes(data)
 
 
-def make_case(pick):
-    size = pick.choice((1, 2, 3, 4, 5, 6, 7, 8, 9, 10, 11, 12, 12, 127))
-    data = make_trace(pick, size, pick.randint(0, 12) if size == 127 else pick.randint(0, 60))
+def make_case(pick, size, length):
+    """A trace that may be damaged, with areas that may be longer than they have to be, or too short."""
+    data = make_trace(pick, size, length)
     if pick.random() < 0.35:
         data = damaged(pick, data)
     stated = list(rule.stated(size))
@@ -53,29 +86,51 @@ def make_case(pick):
     return data, lent, pick.randint(1, 255)
 
 
-def main(batches):
+def cases(pick):
+    """Many small ones, some for every size, climbs, and a long one with thousands of blocks."""
+    for _ in range(SMALL_CASES):
+        yield make_case(pick, pick.randint(1, SMALL_SIZE), pick.randint(0, 60))
+    for size in range(1, form.LARGEST_SIZE + 1):
+        yield make_trace(pick, size, 30 + 2 * size), rule.stated(size), pick.randint(1, 255)
+        yield make_case(pick, size, size)
+    for size in CLIMBS:
+        yield climb(pick, size, size), rule.stated(size), pick.randint(1, 255)
+    reads = [(0, pick.randint(1, 4) if i % 2 else i, pick.randint(1, 4)) for i in range(LONG_READS)]
+    yield form.trace(3, reads), rule.stated(3), pick.randint(1, 255)
+
+
+def batches(every):
+    """Cases in lists of no more bytes than the program takes at a time."""
+    batch, length = [], 0
+    for case in every:
+        taken = len(rule.packed(*case))
+        if length + taken > BATCH:
+            yield batch
+            batch, length = [], 0
+        batch.append(case)
+        length += taken
+    yield batch
+
+
+def check_climbs(tally, pick):
+    """The simulation itself climbs as far as it has to, so that these cases do not get weak unnoticed."""
+    for size in CLIMBS:
+        answer = rule.expected(climb(pick, size, 0), rule.stated(size), 1).split()
+        tally.equal('the peak of one block at %d' % size, int(answer[3]), (size + 1) // 2)
+        tally.equal('the peak of all at %d' % size, int(answer[2]) > size, True)
+
+
+def main(program='sizes_test'):
+    tally = compare.Tally()
     pick = random.Random(20261115)
-    passed = failed = 0
-    for _ in range(batches):
-        cases, given = [], b''
-        while True:
-            case = make_case(pick)
-            if len(given) + len(rule.packed(*case)) > BATCH:
-                break
-            cases.append(case)
-            given += rule.packed(*case)
-        lines = kit.output('sizes_test', given).split('\n')[:-1]
-        for case, line in zip(cases, lines):
-            want = rule.expected(*case)
-            if line == want:
-                passed += 1
-                continue
-            failed += 1
-            print('trace %s lent %s filled %d\nwant %s\nhave %s' % (case[0].hex(), case[1], case[2], want[:200], line[:200]))
-        failed += abs(len(cases) - len(lines))
-    print('%d passed, %d failed' % (passed, failed))
-    return 1 if failed or not passed else 0
+    for batch in batches(cases(pick)):
+        lines = kit.output(program, b''.join(rule.packed(*case) for case in batch)).split('\n')[:-1]
+        tally.equal('the lines of a batch', len(lines), len(batch))
+        for case, line in zip(batch, lines):
+            tally.equal('trace %s lent %s filled %d' % (case[0].hex(), case[1], case[2]), line, rule.expected(*case))
+    check_climbs(tally, pick)
+    return tally.end()
 
 
-if __name__ == "__main__":
-    sys.exit(main(4))
+if __name__ == '__main__':
+    sys.exit(main(*map(os.path.abspath, sys.argv[1:2])))

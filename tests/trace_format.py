@@ -23,6 +23,11 @@ def spell(value):
         out.append(group | 0x80)
 
 
+def trace(size, reads):
+    """The one spelling of a trace."""
+    return b''.join(map(spell, (1, size, *(number for read in reads for number in read))))
+
+
 def read_number(data, at):
     """By search for the end and then by spelling what was found again: another way than the proved reader's."""
     end = at

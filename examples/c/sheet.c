@@ -1,10 +1,12 @@
-/* Prints the sheet of a trace of any length: sheet FILE */
+/* Prints the sheet of a trace of any length: sheet FILE
+ *
+ * It ends with status 0 for a sheet, 1 for the line of a refused trace, and 2 where it could not ask or could not tell. */
 #include <stdio.h>
 #include <stdlib.h>
 
 #include "supharoek.h"
 
-enum { FIRST_ROOM = 65536, WRONG = 2 };
+enum { FIRST_ROOM = 65536, REFUSED = 1, WRONG = 2 };
 
 struct bytes {
     uint8_t *at;
@@ -51,19 +53,21 @@ static struct bytes read_file(const char *name) {
     return trace;
 }
 
-static void print_sheet(struct bytes trace) {
+/* Prints the sheet, or the line of a refusal; the status. What is lost may show only when the output is closed. */
+static int print_sheet(struct bytes trace) {
     size_t length = supharoek_sheet(trace.at, trace.length, blocks, sizeof blocks / sizeof *blocks, stretches,
                                     sizeof stretches / sizeof *stretches, counts, sizeof counts / sizeof *counts, text,
                                     sizeof text);
-    if (fwrite(text, 1, length, stdout) != length || fflush(stdout) != 0)
+    if (fwrite(text, 1, length, stdout) != length || fclose(stdout) != 0)
         fail("the sheet could not be written", "");
+    return text[0] == 'r' ? REFUSED : 0;
 }
 
 int main(int given, char **arguments) {
     if (given != 2)
         fail("one file is needed: sheet FILE", "");
     struct bytes trace = read_file(arguments[1]);
-    print_sheet(trace);
+    int status = print_sheet(trace);
     free(trace.at);
-    return 0;
+    return status;
 }

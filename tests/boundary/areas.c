@@ -13,8 +13,8 @@ static size_t bytes_of(struct area area) {
     return area.width * area.length;
 }
 
-static uint8_t *taken(size_t length) {
-    uint8_t *at = malloc(length);
+void *taken(size_t length) {
+    void *at = malloc(length);
     if (at == NULL) {
         printf("there is not enough memory\n");
         exit(1);
@@ -28,7 +28,7 @@ void renew(struct area area) {
 
 struct area lend(size_t width, size_t length) {
     size_t all = width * length + 2 * GUARD;
-    struct area area = {taken(all) + GUARD, taken(all), width, length};
+    struct area area = {(uint8_t *)taken(all) + GUARD, taken(all), width, length};
     for (size_t i = 0; i < all; i += 8) {
         uint64_t noise = chance();
         memcpy(area.at - GUARD + i, &noise, all - i < 8 ? all - i : 8);

@@ -12,6 +12,9 @@ struct area {
     size_t length;   /* the elements */
 };
 
+/* So many bytes; where there is no memory for them the program ends, and tells no sum. */
+void *taken(size_t length);
+
 struct area lend(size_t width, size_t length);
 void take_back(struct area area);
 

@@ -2,12 +2,20 @@
 #include "checks.h"
 #include "tally.h"
 
-int main(void) {
+/* With any argument the first wrong case is the last one. */
+int main(int given, char **arguments) {
+    (void)arguments;
+    if (given > 1)
+        stop_at_first();
     check_reading();
     check_writing();
-    check_stated_sheets();
-    check_runs();
-    check_steps();
     check_ratios();
+    check_stated_sheets();
+    check_steps();
+    check_rooms();
+    check_runs();
+    check_many_reads();
+    check_climbs();
+    check_longest_sheet();
     return end_tally();
 }

@@ -7,7 +7,7 @@
 #include "supharoek.h"
 #include "tally.h"
 
-enum { ROUNDS = 3000, ROOM = 16 };
+enum { ROUNDS = 3000, ROOM = 16, LONG_PART = 65536 };
 
 typedef uint32_t reader(const uint8_t *bytes, size_t length, uint64_t *out, size_t out_length);
 
@@ -67,6 +67,10 @@ static const struct stated headers[] = {
     {"\x02\x00", 2, SUPHAROEK_EDITION, 0},
     {"\x01\x00", 2, SUPHAROEK_SIZE, 1},
     {"\x01\x80\x01", 3, SUPHAROEK_SIZE, 1},
+    {"\x81\x02\x05", 3, SUPHAROEK_EDITION, 0},
+    {"\x81\x80\x04\x05", 4, SUPHAROEK_EDITION, 0},
+    {"\x01\x81\x02", 3, SUPHAROEK_SIZE, 1},
+    {"\x01\x85\x80\x04", 4, SUPHAROEK_SIZE, 1},
     {"\x01\x05", 2, 0, 1},
 };
 
@@ -78,6 +82,8 @@ static const struct stated records[] = {
     {"\x01\x80\x80\x80\x80\x80", 6, SUPHAROEK_FORM, 1},
     {"\x01\x0a\x00", 3, SUPHAROEK_PRIORITY, 2},
     {"\x01\x0a\x80\x80\x01", 5, SUPHAROEK_PRIORITY, 2},
+    {"\x01\x0a\x81\x80\x04", 5, SUPHAROEK_PRIORITY, 2},
+    {"\x81\x80\x04\x0a\x01", 5, SUPHAROEK_VOLUME, 0},
     {"\xff\xff\x03\xff\xff\xff\xff\x0f\xff\x7f", 10, 0, 65535},
 };
 
@@ -111,7 +117,19 @@ static void check_noise(void) {
     check_record(bytes, from_to(0, ROOM));
 }
 
+/* A part whose length is small where only its lowest bits are looked at, and more to tell into. */
+static void check_long_part(void) {
+    static uint8_t bytes[LONG_PART] = {1, 5, 1};
+    const struct expected header = {0, 3, {1, 5, 2, 0}}, record = {0, 4, {1, 5, 1, 3}};
+    for (size_t length = LONG_PART - 1; length <= LONG_PART; length++) {
+        check_read(supharoek_read_header, bytes, length, 256, header);
+        check_read(supharoek_read_record, bytes, length, 256, record);
+    }
+    end_case();
+}
+
 void check_reading(void) {
+    check_long_part();
     check_stated(supharoek_read_header, headers, sizeof headers / sizeof *headers);
     check_stated(supharoek_read_record, records, sizeof records / sizeof *records);
     for (int i = 0; i < ROUNDS; i++) {

@@ -52,47 +52,61 @@ uint64_t read_on(uint64_t *card, size_t size, uint64_t key, uint64_t priority) {
 }
 
 void begin(struct cards *cards, size_t size) {
-    memset(cards, 0, sizeof *cards);
+    for (size_t number = 1; cards->keys[number] != 0; number++)
+        cards->keys[number] = cards->stretches[number] = 0;
+    memset(cards->places, 0, (size + 1) * sizeof *cards->places);
+    memset(cards->counts, 0, sizeof cards->counts);
     cards->size = size;
+    cards->reads = cards->total_peak = cards->one_peak = 0;
 }
 
-/* 1 where a stretch of the block at a place begins at a size: the next smaller card does not hold it there. */
-static uint64_t begins_at(const struct cards *cards, size_t size, size_t place) {
-    uint64_t key = cards->places[size][place];
-    return key != 0 && (size == 1 || place >= size - 1 || cards->places[size - 1][place] != key);
+/* A block that is nowhere may lose its number to another one. */
+uint64_t number_of(struct cards *cards, uint64_t key) {
+    uint64_t number = 1, unused = 0;
+    for (; cards->keys[number] != 0; number++) {
+        if (cards->keys[number] == key)
+            return number;
+        if (cards->stretches[number] == 0)
+            unused = number;
+    }
+    if (unused == 0)
+        unused = number;
+    cards->keys[unused] = key;
+    return unused;
 }
 
-/* The stretches of one block, by a search on every card. */
-static uint64_t stretches_of(const struct cards *cards, uint64_t key) {
+/* The stretches that begin at a size: those of the blocks that the next smaller card does not hold at the same place,
+ * which has nothing at its place past the last. */
+static uint64_t stretches_from(struct cards *cards, size_t size) {
+    const uint64_t *card = cards->places[size], *smaller = cards->places[size - 1];
     uint64_t found = 0;
-    size_t before = 0;
-    for (size_t m = 1; m <= cards->size; m++) {
-        size_t place = place_on(cards->places[m], m, key);
-        found += place != 0 && place != before;
-        before = place;
+    /* quicker than the loop, and most cards are alike */
+    if (memcmp(card, smaller, size * sizeof *card) == 0)
+        return 0;
+    for (size_t i = 0; i < size; i++) {
+        if (card[i] == 0 || card[i] == smaller[i])
+            continue;
+        found++;
+        if (++cards->stretches[card[i]] > cards->one_peak)
+            cards->one_peak = cards->stretches[card[i]];
     }
     return found;
 }
 
-/* A block is met once for each of its stretches; all of them are searched each time. */
-static void renew_peaks(struct cards *cards) {
+void renew_peaks(struct cards *cards) {
     uint64_t total = 0;
+    for (size_t number = 1; cards->keys[number] != 0; number++)
+        cards->stretches[number] = 0;
     for (size_t m = 1; m <= cards->size; m++)
-        for (size_t i = 0; i < m; i++) {
-            if (!begins_at(cards, m, i))
-                continue;
-            total++;
-            uint64_t one = stretches_of(cards, cards->places[m][i]);
-            if (one > cards->one_peak)
-                cards->one_peak = one;
-        }
+        total += stretches_from(cards, m);
     if (total > cards->total_peak)
         cards->total_peak = total;
 }
 
 void read_on_all(struct cards *cards, uint64_t key, uint64_t priority) {
+    uint64_t number = number_of(cards, key);
     for (size_t m = 1; m <= cards->size; m++)
-        cards->counts[KINDS * (m - 1) + read_on(cards->places[m], m, key, priority)]++;
+        cards->counts[KINDS * (m - 1) + read_on(cards->places[m], m, number, priority)]++;
     cards->reads++;
     renew_peaks(cards);
 }

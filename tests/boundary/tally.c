@@ -1,10 +1,12 @@
 #include "tally.h"
 
 #include <stdio.h>
+#include <stdlib.h>
 
 enum { SHOWN = 40 };
 
 static unsigned long passed, failed, wrong, wrong_here;
+static int stops;
 
 void check(int right, const char *what, uint64_t which) {
     if (right)
@@ -20,6 +22,12 @@ void end_case(void) {
     else
         passed++;
     wrong_here = 0;
+    if (stops && failed > 0)
+        exit(end_tally());
+}
+
+void stop_at_first(void) {
+    stops = 1;
 }
 
 int end_tally(void) {

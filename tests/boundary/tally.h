@@ -10,6 +10,9 @@ void check(int right, const char *what, uint64_t which);
 /* A case is over: it passed where everything checked since the last one was right. */
 void end_case(void);
 
+/* From now on the first wrong case is the last one: the sum is printed and the program ends. */
+void stop_at_first(void);
+
 /* Prints the sum; the exit status. */
 int end_tally(void);
 

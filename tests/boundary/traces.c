@@ -1,9 +1,35 @@
 #include "traces.h"
 
+#include <stdlib.h>
 #include <string.h>
 
+#include "areas.h"
 #include "format.h"
 #include "tally.h"
+
+/* More bytes than any damage or a few reads add. */
+enum { SPARE_ROOM = 100 };
+
+void begin_trace(struct trace *trace, size_t n, size_t reads) {
+    drop_trace(trace);
+    trace->bytes = taken(2 + LONGEST_RECORD * reads + SPARE_ROOM);
+    trace->length = spell_header(trace->bytes, 1, n);
+}
+
+void add_read(struct trace *trace, uint64_t volume, uint64_t block, uint64_t priority) {
+    trace->length += spell_record(trace->bytes + trace->length, volume, block, priority);
+}
+
+void add_outcomes(struct trace *trace, uint64_t volume, uint64_t block) {
+    static const uint64_t priorities[OUTCOME_READS] = {2, 1, 1, 2, 16383, 16383};
+    for (int i = 0; i < OUTCOME_READS; i++)
+        add_read(trace, volume, block, priorities[i]);
+}
+
+void drop_trace(struct trace *trace) {
+    free(trace->bytes);
+    trace->bytes = NULL;
+}
 
 static uint64_t some_priority(size_t n, int kind) {
     switch (kind) {
@@ -26,25 +52,27 @@ static uint64_t some_priority(size_t n, int kind) {
     }
 }
 
-/* Small volumes and blocks and the largest ones: many that differ in one of the two alone. */
+/* Volumes and blocks of which many are the same but for one bit, whichever it is. */
 static uint64_t some_volume(void) {
-    static const uint64_t volumes[] = {0, 1, 2, 127, 128, 65535};
-    return volumes[from_to(0, 5)];
+    static const uint64_t others[] = {127, 255, 65535};
+    if (from_to(0, 1))
+        return 0;
+    return from_to(0, 3) ? (uint64_t)1 << from_to(0, 15) : others[from_to(0, 2)];
 }
 
 static uint64_t some_block(size_t pool) {
-    uint64_t block = from_to(0, pool);
-    return from_to(0, 4) == 0 ? UINT32_MAX - block : block;
+    uint64_t block = from_to(0, pool), kind = from_to(0, 7);
+    if (kind == 0)
+        return UINT32_MAX - block;
+    return kind == 1 ? block ^ (uint64_t)1 << from_to(0, 31) : block;
 }
 
 void make_trace(struct trace *trace, size_t n, size_t reads, int kind) {
     size_t pool = from_to(0, 2 * n);
     uint64_t one_volume = from_to(0, 1);
-    trace->length = spell_header(trace->bytes, 1, n);
-    for (size_t i = 0; i < reads; i++) {
-        uint64_t volume = one_volume ? 1 : some_volume();
-        trace->length += spell_record(trace->bytes + trace->length, volume, some_block(pool), some_priority(n, kind));
-    }
+    begin_trace(trace, n, reads);
+    for (size_t i = 0; i < reads; i++)
+        add_read(trace, one_volume ? 1 : some_volume(), some_block(pool), some_priority(n, kind));
 }
 
 /* Puts bytes in at a place, and what stood there goes further. */

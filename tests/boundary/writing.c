@@ -7,7 +7,7 @@
 #include "supharoek.h"
 #include "tally.h"
 
-enum { ROUNDS = 6000, MOST_BEFORE = 4 };
+enum { ROUNDS = 6000, MOST_BEFORE = 4, LARGE_BUFFER = 65546 };
 
 /* What is to be written, as numbers and spelled; a header is two numbers. */
 struct item {
@@ -95,6 +95,27 @@ static void check_item(const struct item *item, uint64_t which) {
     end_case();
 }
 
+/* Offsets that are 0 where only the lowest bits are looked at, the last one as 64 bits are, and those around them. */
+static void check_far_offsets(const struct item *item) {
+    static const size_t offsets[] = {256,           65536,           2147483648, 4294967296,
+                                     1103806595072, (size_t)1 << 63, 0};
+    for (size_t i = 0; i < sizeof offsets / sizeof *offsets; i++)
+        for (size_t more = 0; more < 10; more++) {
+            check_write(item, 20, offsets[i] + more, 1, i);
+            check_write(item, 20, offsets[i] - more, 1, i);
+        }
+    end_case();
+}
+
+/* Lengths and offsets that are small where only the lowest bits are looked at, and more to tell into. */
+static void check_large_buffer(const struct item *item) {
+    for (size_t at = 65530; at <= LARGE_BUFFER + 1; at++)
+        check_write(item, LARGE_BUFFER, at, 256, at);
+    check_write(item, 65536, 0, 1, 0);
+    check_write(item, 256, 1, 1, 0);
+    end_case();
+}
+
 /* Numbers at the ends of every length and range, and others of every magnitude. */
 static uint64_t some_number(void) {
     static const uint64_t edges[] = {0,     1,     127,     128,     16383,     16384,
@@ -108,8 +129,10 @@ static void check_wrong_items(void) {
     const struct item items[] = {
         header_item(0, 0),          header_item(2, 128),          header_item(1, 0),
         header_item(1, 128),        header_item(UINT64_MAX, 1),   header_item(1, UINT64_MAX),
-        header_item(4294967297, 5), header_item(1, 4294967297),   record_item(65536, 1, 0),
-        record_item(1, 1, 0),       record_item(1, 1, 16384),     record_item(UINT64_MAX, 1, 1),
+        header_item(4294967297, 5), header_item(1, 4294967297),   header_item(257, 5),
+        header_item(65537, 5),      header_item(1, 257),          header_item(1, 65541),
+        record_item(65536, 1, 0),   record_item(1, 1, 0),         record_item(1, 1, 16384),
+        record_item(1, 1, 65537),   record_item(UINT64_MAX, 1, 1), record_item(65537, 1, 1),
         record_item(4294967296, 1, 1), record_item(1, 1, 4294967297),
     };
     for (size_t i = 0; i < sizeof items / sizeof *items; i++)
@@ -117,6 +140,11 @@ static void check_wrong_items(void) {
 }
 
 void check_writing(void) {
+    const struct item longest[] = {header_item(1, 127), record_item(65535, UINT32_MAX, 16383)};
+    for (int i = 0; i < 2; i++) {
+        check_far_offsets(&longest[i]);
+        check_large_buffer(&longest[i]);
+    }
     check_wrong_items();
     for (uint64_t n = 1; n <= 127; n++) {
         struct item item = header_item(1, n);
