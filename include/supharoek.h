@@ -88,7 +88,7 @@ uint32_t supharoek_run(const uint8_t *trace, size_t trace_length, uint64_t *bloc
                        uint64_t *out, size_t out_length);
 
 /* Runs a trace as supharoek_run does, with the same areas and the same left in them, and puts its sheet into a text, as
- * far as it fits; a refusal is a sheet of one line. No byte of 0 is put after it.
+ * far as it fits; a refusal is a sheet of one line that begins with `refused`. No byte of 0 is put after it.
  * The answer is the length of the whole sheet, which may be more than the text holds. */
 size_t supharoek_sheet(const uint8_t *trace, size_t trace_length, uint64_t *blocks, size_t blocks_length,
                        uint16_t *stretches, size_t stretches_length, uint64_t *counts, size_t counts_length,

@@ -11,11 +11,10 @@ import tty
 
 import c_tools
 import kit
+from sheet_rule import WORKED, WORKED_SHEET
 
 PATIENCE = 200  # seconds: a command that takes longer hangs
 FOLDER = kit.ROOT / 'target' / 'edges'
-WORKED = bytes.fromhex('0103010a01010b02010c03010a03010b03010d02010c04010d01')
-WORKED_SHEET = 'accesses 8 stretches 3 block 2\n1 7 0 0 0 1 2 5\n2 5 1 0 0 2 3 2\n3 4 0 1 2 1 4 0\n'
 # a day that was cut short: a right trace that is the front of a longer one
 CUT_SHORT = bytes.fromhex('0103') + bytes.fromhex('010a01') * 50
 

@@ -6,6 +6,7 @@ tests/script_kit.py has what goes wrong in the kit and in the program that the s
 import os
 import pathlib
 import pty
+import socket
 import sys
 import tempfile
 
@@ -31,6 +32,13 @@ def check_names(tally, script, folder):
     tally.equal('a full name', edges.ended([script, folder / 'a day.trace'], cwd='/'), RIGHT)
     tally.equal('no such file', edges.ended([script, 'none'], cwd=folder), refused_use('there is no file none'))
     tally.equal('a folder', edges.ended([script, '.'], cwd=folder), refused_use('. is a folder, not a trace'))
+    with socket.socket(socket.AF_UNIX) as unopened:
+        unopened.bind(str(folder / 'socket'))
+    for environment in ({}, {'POSIXLY_CORRECT': '1'}, {'SHELLOPTS': 'errexit'}):
+        environment.update(os.environ)
+        have = edges.ended([script, folder / 'socket'], env=environment)
+        tally.equal('a file that cannot be opened', have, refused_use('%s cannot be opened' % (folder / 'socket')))
+        tally.equal('a caller with options', edges.ended([script, './a day.trace'], cwd=folder, env=environment), RIGHT)
     tally.equal('two files', edges.ended([script, 'a', 'b']), refused_use('one file at a time: ./sheet FILE, or ./sheet < FILE'))
     said = 'there is no option -x; see ./sheet --help, and name a file that begins with - as ./-x'
     tally.equal('an option that there is not', edges.ended([script, '-x']), refused_use(said))

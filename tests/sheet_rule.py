@@ -3,6 +3,9 @@ import sizes_rule
 import trace_format as form
 
 LARGE, LARGEST_INPUT = 10, 16384
+# the worked trace of the description, and its sheet as it stands there
+WORKED = bytes.fromhex('0103010a01010b02010c03010a03010b03010d02010c04010d01')
+WORKED_SHEET = 'accesses 8 stretches 3 block 2\n1 7 0 0 0 1 2 5\n2 5 1 0 0 2 3 2\n3 4 0 1 2 1 4 0\n'
 
 
 def refused(number, place):

@@ -8,8 +8,8 @@ import sys
 import compare
 import sizes_rule as rule
 import trace_format as form
+from sheet_rule import WORKED
 
-WORKED = bytes.fromhex('0103010a01010b02010c03010a03010b03010d02010c04010d01')
 SHEET = 'done 8 3 2 3 0 12 0 counts 0 0 0 1 2 5 1 0 0 2 3 2 0 1 2 1 4 0'
 PAPER = ((1, 2), (2, 2), (3, 5), (4, 1), (2, 6), (4, 6), (1, 4), (3, 1), (1, 4))
 # traces at the borders of what is refused; the one with the largest priority is accepted
