@@ -60,33 +60,33 @@ def would_block(data):
     return ours, theirs
 
 
-def written_slowly(data, pieces=4, pause=0.05):
+def written_slowly(data, pieces):
     """A descriptor to which a thread writes the data, piece after piece."""
     ours, theirs = os.pipe()
 
     def write():
         with os.fdopen(theirs, 'wb', 0) as file:
             for piece in range(pieces):
-                time.sleep(pause)
+                time.sleep(0.05)
                 file.write(data[len(data) * piece // pieces:len(data) * (piece + 1) // pieces])
 
     threading.Thread(target=write).start()
     return ours
 
 
-def bad_inputs(command, **more):
+def bad_inputs(command):
     """What kind of input it is, how the command ended on it, and what is said of such an input."""
     for what, data in (('bytes', CUT_SHORT), ('no bytes', b'')):
         with os.fdopen(closed_terminal(data)) as stdin:
-            yield 'a terminal that is gone after ' + what, ended(command, stdin=stdin, **more), 'Input/output error'
+            yield 'a terminal that is gone after ' + what, ended(command, stdin=stdin), 'Input/output error'
         ours, theirs = would_block(data)
         with os.fdopen(ours) as stdin, os.fdopen(theirs):
-            yield 'a pipe that would block after ' + what, ended(command, stdin=stdin, **more), 'Resource temporarily unavailable'
-    yield 'a folder', ended(command, '</', **more), 'Is a directory'
+            yield 'a pipe that would block after ' + what, ended(command, stdin=stdin), 'Resource temporarily unavailable'
+    yield 'a folder', ended(command, '</'), 'Is a directory'
 
 
-def slow_inputs(command, **more):
+def slow_inputs(command):
     """Right inputs that come in pieces: what kind, and how the command ended on it."""
     for pieces in (2, len(WORKED)):
         with os.fdopen(written_slowly(WORKED, pieces)) as stdin:
-            yield 'an input in %d pieces' % pieces, ended(command, stdin=stdin, **more)
+            yield 'an input in %d pieces' % pieces, ended(command, stdin=stdin)

@@ -39,7 +39,8 @@ class Desk:
     def __init__(self, folder, script):
         self.root, self.tools, self.log = folder / 'root', folder / 'tools', folder / 'log'
         self.program = self.root / 'target' / 'bin' / 'sheet'
-        for place in (self.tools, self.program.parent, self.root / 'target' / 'stamp', self.root / 'target' / 'log'):
+        self.stamp, self.linked = self.root / 'target' / 'stamp' / 'sheet', self.root / 'target' / 'obj' / 'sheet.o'
+        for place in (self.tools, self.program.parent, self.stamp.parent, self.linked.parent, self.root / 'target' / 'log'):
             place.mkdir(parents=True)
         for tool in TOOLS:
             (self.tools / tool).symlink_to(shutil.which(tool))
@@ -55,16 +56,16 @@ class Desk:
         script_file(self.tools / 'rt', KIT % '%s\ncat <<"SAYS"\n%sSAYS\nexit %d' % (does, says, status))
 
     def has(self, program):
-        """From now on this program lies there, checked after it was made."""
+        """From now on this program lies there, linked from what is older and checked after it was made."""
         script_file(self.program, '#!/usr/bin/env bash\n' + program + '\n')
-        self.stamp(1)
+        self.dated(self.linked, -1)
+        self.dated(self.stamp, 1)
 
-    def stamp(self, later):
-        """The check is so many seconds younger than the program."""
-        stamp = self.root / 'target' / 'stamp' / 'sheet'
-        stamp.touch()
-        made = self.program.stat().st_mtime
-        os.utime(stamp, (made + later, made + later))
+    def dated(self, path, later):
+        """A file that is so many seconds younger than the program."""
+        path.touch()
+        date = self.program.stat().st_mtime + later
+        os.utime(path, (date, date))
 
     def ended(self, redirections='', **more):
         environment = {'PATH': str(self.tools), 'LOG': str(self.log), 'SHEET': edges.WORKED_SHEET}
@@ -102,8 +103,10 @@ def check_staleness(tally, desk):
     """What lies there is run only after a check that holds for it."""
     desk.has('printf %s "$SHEET"')
     tally.equal('a program that was checked', (desk.ended(), desk.asked()), ((0, edges.WORKED_SHEET, ''), STAMPED))
-    desk.stamp(-1)
-    tally.equal('a program that was put there later', (desk.ended(), desk.asked()), ((0, edges.WORKED_SHEET, ''), ANEW))
+    for what, path, later in (('put there later', desk.stamp, -1), ('put back with its date', desk.linked, 1)):
+        desk.has('printf %s "$SHEET"')
+        desk.dated(path, later)
+        tally.equal('a program that was ' + what, (desk.ended(), desk.asked()), ((0, edges.WORKED_SHEET, ''), ANEW))
     desk.has('printf %s "$SHEET"; echo ran >>"$LOG"')
     says = 'rt: low proved (unchanged since it was last proved)\nan error\nrt: sheet NOT PROVED (exit 1, 6 s)\nrt: FAILED: sheet\n'
     desk.kit('', says, 1)

@@ -1,7 +1,6 @@
 -- `sheet::read_input` is safe and ends: each turn brings a byte at least. Assumes nothing.
 use Prim.Native.Nat.{_-_, _≤_}
 use mathlib.Core.Path.{_≡_}
-use native.Mathlib.Omega.{arith}
 use lib.ListN.{length}
 use borrow.Author.Needs.{needs}
 use Rattle.sheet.proofs.read_input.Statement.{statement}

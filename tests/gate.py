@@ -1,6 +1,6 @@
 """The gate itself, and that everything it goes by is there: programs for stored outputs, and a part for every test.
 
-    python3 tests/layout.py [GATE]
+    python3 tests/gate.py [GATE]
 
 The gate is run in a folder of its own, with an `rt` and tests that end as each case says."""
 import os
