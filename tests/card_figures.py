@@ -100,4 +100,6 @@ def tell():
 
 
 tell()
-sys.exit(compare.report(lines, 'card_test'))
+tally = compare.Tally()
+tally.lines(lines, 'card_test')
+sys.exit(tally.end())

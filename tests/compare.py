@@ -22,18 +22,19 @@ class Tally:
         if UNTIL_FIRST:
             sys.exit(self.end())
 
+    def lines(self, worked, crate):
+        """Compares lines that were worked out with those of a crate's stored output."""
+        have = stored(crate)
+        self.equal('how many lines', len(have), len(worked))
+        for number, pair in enumerate(zip(have, worked), 1):
+            self.equal('line %d' % number, *pair)
+
     def end(self):
         """Prints the sum; the exit status. Nothing compared is no success."""
         print('%d passed, %d failed' % (self.passed, self.failed))
         return 1 if self.failed or not self.passed else 0
 
 
-def report(worked, crate):
-    """Says which lines differ from the crate's stored output, and counts; answers the exit status."""
-    stored = (CRATES / crate / 'stdout').read_text().split('\n')[:-1]
-    wrong = [pair for pair in zip(worked, stored) if pair[0] != pair[1]]
-    for ours, theirs in wrong:
-        print('worked out: %s\nstored:     %s' % (ours, theirs))
-    failed = len(wrong) + abs(len(worked) - len(stored))
-    print('%d passed, %d failed' % (len(worked) - len(wrong), failed))
-    return 1 if failed or not worked else 0
+def stored(crate):
+    """The lines of a crate's stored output."""
+    return (CRATES / crate / 'stdout').read_text().split('\n')[:-1]

@@ -43,13 +43,10 @@ def fill():
 
 
 fill()
-given = b''.join(rule.packed(*each) for each in cases)
-stored = (compare.CRATES / 'sizes_test' / 'stdin').read_bytes()
-if given != stored:
-    print('the stored cases are others\n0 passed, 1 failed')
-    sys.exit(1)
 lines = [rule.expected(*each) for each in cases]
-if lines[0] != SHEET:
-    print('the worked trace gives %s\n0 passed, 1 failed' % lines[0])
-    sys.exit(1)
-sys.exit(compare.report(lines, 'sizes_test'))
+tally = compare.Tally()
+given = (compare.CRATES / 'sizes_test' / 'stdin').read_bytes()
+tally.equal('the stored cases', given, b''.join(rule.packed(*each) for each in cases))
+tally.equal('the worked trace', lines[0], SHEET)
+tally.lines(lines, 'sizes_test')
+sys.exit(tally.end())

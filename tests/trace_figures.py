@@ -71,4 +71,6 @@ def line(call, arguments):
 source = (compare.CRATES / 'trace_test' / 'src' / 'main.rt').read_text()
 cases = source[source.index('\nfn numbers() {'):]
 calls = [found.groups() for found in map(CALL.match, cases.split('\n')) if found]
-sys.exit(compare.report([line(*call) for call in calls], 'trace_test'))
+tally = compare.Tally()
+tally.lines([line(*call) for call in calls], 'trace_test')
+sys.exit(tally.end())
