@@ -1,16 +1,17 @@
 """Works out each line of crates/card_test/stdout by tests/card_rule.py, from the same reads told a second time.
 
-The gate compares that file with what the proved step answers, so the two meet in it.
+The gate compares that file with what the proved step answers, so the two meet in it. Both have to show what the paper
+shows, too.
 """
 import sys
 
 import card_rule as rule
 import compare
+import paper
 
 VOLUME, PRIORITY, STATE = 5, 6, 9
 PLACES = 127
 LARGEST_KEY = 2 ** 48
-PAPER = ((1, 2), (2, 2), (3, 5), (4, 1), (2, 6), (4, 6), (1, 4), (3, 1), (1, 4))
 
 lines = []
 
@@ -65,7 +66,7 @@ def spans(time, block):
     found = []
     for size in range(1, 8):
         card = [None] * size
-        for name, priority in PAPER[:time]:
+        for name, priority in paper.READS[:time]:
             rule.read(card, name, priority)
         found.append(card.index(block) + 1 if block in card else 0)
     lines.append('time %d block %d places %s' % (time, block, ' '.join(map(str, found))))
@@ -80,7 +81,7 @@ def tell():
     run(3, ((0, 10, 3), (0, 11, 3)))
     run(2, ((1, 7, 1), (2, 7, 1)))
     for size in (5, 6, 4):
-        run(size, [(0, block, priority) for block, priority in PAPER])
+        run(size, [(0, block, priority) for block, priority in paper.READS])
     for time, block in ((1, 1), (2, 1), (2, 2), (4, 1), (4, 2), (5, 1), (5, 2), (7, 1), (8, 1)):
         spans(time, block)
     for size in (0, 1, 128, 2 ** 64 - 1):
@@ -102,4 +103,7 @@ def tell():
 tell()
 tally = compare.Tally()
 tally.lines(lines, 'card_test')
+for whose, told in (('the simulation', lines), ('the proved step', compare.stored('card_test'))):
+    paper.check_figures(tally, whose, told)
+    paper.check_spans(tally, whose, told)
 sys.exit(tally.end())

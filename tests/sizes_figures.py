@@ -1,17 +1,17 @@
 """Works out crates/sizes_test's stored cases and each line of its output by tests/sizes_rule.py.
 
 The gate compares the output with what the proved run answers and leaves, so the two meet in it. The sheet of the
-description's worked trace stands here as the description gives it.
+description's worked trace stands here as the description gives it, and both have to have the paper's distances.
 """
 import sys
 
 import compare
+import paper
 import sizes_rule as rule
 import trace_format as form
 from sheet_rule import WORKED
 
 SHEET = 'done 8 3 2 3 0 12 0 counts 0 0 0 1 2 5 1 0 0 2 3 2 0 1 2 1 4 0'
-PAPER = ((1, 2), (2, 2), (3, 5), (4, 1), (2, 6), (4, 6), (1, 4), (3, 1), (1, 4))
 # traces at the borders of what is refused; the one with the largest priority is accepted
 BORDERS = ('', '0100', '018001', '0200', '0103808004', '0103010a', '0103010a00', '0103010aff7f', '0103010a808001', '0103010a8000', '018000')
 
@@ -22,16 +22,21 @@ def case(data, lent, value=9):
     cases.append((data, lent, value))
 
 
+def paper_case(time, size=7):
+    """The paper's trace up to a time."""
+    return form.trace(size, [(0, *read) for read in paper.READS[:time]]), rule.stated(size)
+
+
 def fill():
     case(WORKED, rule.stated(3))
     case(WORKED, [length + 2 for length in rule.stated(3)])
     for short in range(3):
         case(WORKED, [length - (short == area) for area, length in enumerate(rule.stated(3))])
     # after each read of the paper's trace the peaks tell its spans
-    for time in range(len(PAPER) + 1):
-        case(form.trace(7, [(0, block, priority) for block, priority in PAPER[:time]]), rule.stated(7))
+    for time in range(len(paper.READS) + 1):
+        case(*paper_case(time))
     for size in (4, 5, 6):
-        case(form.trace(size, [(0, block, priority) for block, priority in PAPER]), rule.stated(size))
+        case(*paper_case(len(paper.READS), size))
     case(form.trace(2, ((1, 7, 1), (2, 7, 1))), rule.stated(2))
     case(form.trace(3, ((0, 10, 3), (0, 11, 3))), rule.stated(3))
     for text in BORDERS:
@@ -42,6 +47,13 @@ def fill():
     case(form.trace(127, ((65535, 2 ** 32 - 1, 127), (0, 0, 16383))), rule.stated(127))
 
 
+def outcomes(told):
+    """For each read of the paper's trace its outcomes at sizes 1 to 7: of the six counts of a size, the one that grew."""
+    first = cases.index((*paper_case(0), 9))
+    counts = [[int(n) for n in line.split(' counts ')[1].split()] for line in told[first:first + len(paper.READS) + 1]]
+    return [[i % 6 for i, (old, new) in enumerate(zip(*pair)) if new == old + 1] for pair in zip(counts, counts[1:])]
+
+
 fill()
 lines = [rule.expected(*each) for each in cases]
 tally = compare.Tally()
@@ -49,4 +61,6 @@ given = (compare.CRATES / 'sizes_test' / 'stdin').read_bytes()
 tally.equal('the stored cases', given, b''.join(rule.packed(*each) for each in cases))
 tally.equal('the worked trace', lines[0], SHEET)
 tally.lines(lines, 'sizes_test')
+for whose, told in (('the simulation', lines), ('the proved run', compare.stored('sizes_test'))):
+    paper.check_distances(tally, whose, outcomes(told))
 sys.exit(tally.end())
