@@ -6,6 +6,8 @@ LARGE, LARGEST_INPUT = 10, 16384
 # the worked trace of the description, and its sheet as it stands there
 WORKED = bytes.fromhex('0103010a01010b02010c03010a03010b03010d02010c04010d01')
 WORKED_SHEET = 'accesses 8 stretches 3 block 2\n1 7 0 0 0 1 2 5\n2 5 1 0 0 2 3 2\n3 4 0 1 2 1 4 0\n'
+# where the description has block 13 after the seventh read of that trace: a size, and the place in it
+WORKED_PLACES = ((2, 2), (3, 1))
 
 
 def refused(number, place):

@@ -5,11 +5,12 @@ description's worked trace stands here as the description gives it, and both hav
 """
 import sys
 
+import card_rule
 import compare
 import paper
 import sizes_rule as rule
 import trace_format as form
-from sheet_rule import WORKED
+from sheet_rule import WORKED, WORKED_PLACES, reads_of
 
 SHEET = 'done 8 3 2 3 0 12 0 counts 0 0 0 1 2 5 1 0 0 2 3 2 0 1 2 1 4 0'
 # traces at the borders of what is refused; the one with the largest priority is accepted
@@ -54,12 +55,23 @@ def outcomes(told):
     return [[i % 6 for i, (old, new) in enumerate(zip(*pair)) if new == old + 1] for pair in zip(counts, counts[1:])]
 
 
+def check_worked_places(tally):
+    """The places that the description tells in words; tests/boundary/stated.c has them of the proved step."""
+    reads, _ = reads_of(WORKED, 2)
+    for size, place in WORKED_PLACES:
+        card = [None] * size
+        for volume, block, priority in reads[:7]:
+            card_rule.read(card, (volume, block), priority)
+        tally.equal('block 13 at size %d' % size, card[place - 1], (1, 13))
+
+
 fill()
 lines = [rule.expected(*each) for each in cases]
 tally = compare.Tally()
 given = (compare.CRATES / 'sizes_test' / 'stdin').read_bytes()
 tally.equal('the stored cases', given, b''.join(rule.packed(*each) for each in cases))
 tally.equal('the worked trace', lines[0], SHEET)
+check_worked_places(tally)
 tally.lines(lines, 'sizes_test')
 for whose, told in (('the simulation', lines), ('the proved run', compare.stored('sizes_test'))):
     paper.check_distances(tally, whose, outcomes(told))

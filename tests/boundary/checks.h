@@ -5,7 +5,7 @@
 void check_reading(void);
 void check_writing(void);
 void check_ratios(void);
-void check_stated_sheets(void);
+void check_what_is_stated(void);
 void check_steps(void);
 void check_rooms(void);
 void check_runs(void);

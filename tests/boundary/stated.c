@@ -1,6 +1,8 @@
-/* Sheets that the description of the product tells in so many words, and refusals at places worked out by hand. */
+/* What the description of the product tells in so many words, and refusals at places worked out by hand. */
 #include "areas.h"
 #include "checks.h"
+#include "format.h"
+#include "rule.h"
 #include "supharoek.h"
 #include "tally.h"
 
@@ -50,7 +52,25 @@ static void check_stated(const struct stated *stated, uint64_t which) {
     end_case();
 }
 
-void check_stated_sheets(void) {
+/* The worked trace, which is the first of them: after its seventh read, block 13 is at a place in a size. */
+static void check_place(size_t size, size_t place) {
+    const uint8_t *trace = (const uint8_t *)sheets[0].bytes;
+    uint64_t places[SUPHAROEK_LARGEST] = {0}, outcome;
+    size_t at = header_at_start(trace, sheets[0].length).end;
+    for (int read = 1; read <= 7; read++) {
+        struct reading found = record_at(trace, sheets[0].length, at);
+        uint32_t answer = supharoek_step(size, places, SUPHAROEK_LARGEST, found.values[0], (uint32_t)found.values[1],
+                                         found.values[2], &outcome, 1);
+        check(answer == 0, "a step of the worked trace", size);
+        at = found.end;
+    }
+    check(places[place - 1] == key_of(1, 13), "the place of block 13", size);
+    end_case();
+}
+
+void check_what_is_stated(void) {
     for (size_t i = 0; i < sizeof sheets / sizeof *sheets; i++)
         check_stated(&sheets[i], i);
+    check_place(2, 2);
+    check_place(3, 1);
 }
