@@ -31,6 +31,7 @@ def stated_cases():
     yield bytes.fromhex('0103808004'), 'refused 5 at 2\n'
     yield bytes.fromhex('0103010a'), 'refused 1 at 4\n'
     yield bytes.fromhex('0103010a00'), 'refused 6 at 4\n'
+    yield bytes.fromhex('0103010aff7f'), 'accesses 1 stretches 0 block 0\n' + ''.join('%d 1 0 0 0 0 0 1\n' % m for m in (1, 2, 3))
     yield bytes.fromhex('0103010a808001'), 'refused 6 at 4\n'
     yield bytes(16385), 'refused 10 at 16384\n'
     yield b'\x01\x7f' + bytes(70000), 'refused 10 at 16384\n'

@@ -27,6 +27,8 @@ static const struct stated sheets[] = {
     {"\x01\x03\x80\x80\x04", 5, "refused 5 at 2\n"},
     {"\x01\x03\x01\x0a", 4, "refused 1 at 4\n"},
     {"\x01\x03\x01\x0a\x00", 5, "refused 6 at 4\n"},
+    {"\x01\x03\x01\x0a\xff\x7f", 6,
+     "accesses 1 stretches 0 block 0\n1 1 0 0 0 0 0 1\n2 1 0 0 0 0 0 1\n3 1 0 0 0 0 0 1\n"},
     {"\x01\x03\x01\x0a\x80\x80\x01", 7, "refused 6 at 4\n"},
     {"\x01\x03\x01\x0a\x01\x01\xff\xff\xff\xff\x10\x01", 12, "refused 2 at 6\n"},
 };
