@@ -25,7 +25,7 @@ enum supharoek_refusal {
     SUPHAROEK_SIZE = 4,     /* a largest size outside 1 to 127 */
     SUPHAROEK_VOLUME = 5,   /* a volume over 65,535 */
     SUPHAROEK_PRIORITY = 6, /* a priority of 0, or over 16,383 */
-    SUPHAROEK_ROOM = 7,     /* a lent area that is too short; a run tells the place 0 */
+    SUPHAROEK_ROOM = 7,     /* a lent area that is too short; its place is 0 */
     SUPHAROEK_SPACE = 8,    /* a buffer that is too short from the offset on */
     SUPHAROEK_STATE = 9,    /* a size and places that are no card */
     SUPHAROEK_LARGE = 10,   /* the sheet program alone gives this: more input than it takes */
@@ -42,6 +42,9 @@ enum supharoek_outcome {
     SUPHAROEK_MISS_BYPASS = 5
 };
 
+/* How many outcomes there are, and counts of them for one card. */
+#define SUPHAROEK_OUTCOMES 6
+
 /* The largest size of a card, and how many places a card of any size is handed over with. */
 #define SUPHAROEK_LARGEST 127
 
@@ -49,7 +52,7 @@ enum supharoek_outcome {
  * More are taken, and those beyond are never written. With n = 127 they suffice for every trace. */
 #define SUPHAROEK_BLOCKS(n) ((size_t)(n))
 #define SUPHAROEK_STRETCHES(n) (2 * (size_t)(n) * (((size_t)(n) + 1) / 2))
-#define SUPHAROEK_COUNTS(n) (6 * (size_t)(n))
+#define SUPHAROEK_COUNTS(n) (SUPHAROEK_OUTCOMES * (size_t)(n))
 
 /* A length of text into which every sheet fits. */
 #define SUPHAROEK_TEXT 32768
@@ -96,12 +99,21 @@ size_t supharoek_sheet(const uint8_t *trace, size_t trace_length, uint64_t *bloc
 
 /* Reads one block on the card of one size. A place is 0 where it is empty, or volume * 4,294,967,296 + block + 1; the
  * first number is the top place. There are 127 places or more; those beyond 127 are never written.
- * 0, and out: the outcome. The places are those after the read.
- * ROOM where there are fewer than 127 places; STATE where the size is outside 1 to 127, a place after the size is not
- * empty, a place is over 281,474,976,710,656, or one block is in two places; VOLUME; PRIORITY: tested in this order.
- * Then places and out keep all their values. */
+ * 0, and out: the outcome, and 1 where it is a hit or 0 where it is a miss. The places are those after the read.
+ * ROOM where there are fewer than 127 places, and out: the place 0. The places keep all their values.
+ * STATE where the size is outside 1 to 127, a place after the size is not empty, a place is over 281,474,976,710,656, or
+ * one block is in two places; VOLUME; PRIORITY: tested after ROOM and in this order. Places and out keep all their
+ * values. */
 uint32_t supharoek_step(size_t size, uint64_t *places, size_t places_length, uint64_t volume, uint32_t block,
                         uint64_t priority, uint64_t *out, size_t out_length);
+
+/* Adds an outcome to the counts of one card: SUPHAROEK_OUTCOMES numbers, in the order of the outcomes. More are taken, and
+ * those beyond are never written. Begun with zeros and told every outcome of supharoek_step from an empty card on, they
+ * are the counts that supharoek_run finds for that size.
+ * 0, and out: how many were added. That is 1, and the count of the outcome is one more; or 0 where the number is no
+ * outcome or its count is 18,446,744,073,709,551,615, and the counts keep all their values.
+ * ROOM where there are fewer counts, and out: the place 0. The counts keep all their values. */
+uint32_t supharoek_count(uint32_t outcome, uint64_t *counts, size_t counts_length, uint64_t *out, size_t out_length);
 
 /* The miss ratio: one division of the two numbers as doubles.
  * 0, and *ratio is the ratio.

@@ -10,6 +10,7 @@ int main(int given, char **arguments) {
     check_reading();
     check_writing();
     check_ratios();
+    check_counts();
     check_what_is_stated();
     check_steps();
     check_rooms();

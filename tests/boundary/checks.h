@@ -5,6 +5,7 @@
 void check_reading(void);
 void check_writing(void);
 void check_ratios(void);
+void check_counts(void);
 void check_what_is_stated(void);
 void check_steps(void);
 void check_rooms(void);

@@ -29,7 +29,9 @@ static void check_step(struct area places, struct step step, size_t outs, uint32
     uint32_t answer = supharoek_step(step.size, (uint64_t *)places.at, places.length, step.volume, step.block,
                                      step.priority, (uint64_t *)out.at, outs);
     check(answer == number, "the answer of a step", number);
-    check(begins_with(out, &outcome, number ? 0 : 1), "what a step tells", number);
+    /* the outcome and whether it is a hit; too little room has the place 0, and no other refusal has one */
+    const uint64_t told[] = {number ? 0 : outcome, outcome < SUPHAROEK_INSERT};
+    check(begins_with(out, told, number == 0 ? 2 : number == SUPHAROEK_ROOM), "what a step tells", number);
     if (number)
         check(kept_after(places, 0), "the places of a refused step", number);
     else
@@ -48,7 +50,7 @@ static void walk(const struct trace *trace, uint64_t *card, size_t size, size_t 
         struct reading found = record_at(trace->bytes, trace->length, at);
         struct step step = {size, found.values[0], found.values[2], (uint32_t)found.values[1]};
         uint64_t outcome = read_on(card, size, key_of(step.volume, step.block), step.priority);
-        check_step(places, step, from_to(0, 2), 0, outcome, card);
+        check_step(places, step, from_to(0, 3), 0, outcome, card);
         seen[size][outcome]++;
         at = found.end;
     }
@@ -99,7 +101,7 @@ static struct card changed(size_t place, uint64_t key) {
 static void check_refused(struct card card, size_t length, struct step step, uint32_t number) {
     struct area places = lend(sizeof(uint64_t), length);
     memcpy(places.at, card.places, (length < PLACES ? length : PLACES) * sizeof *card.places);
-    for (size_t outs = 0; outs <= 2; outs++)
+    for (size_t outs = 0; outs <= 3; outs++)
         check_step(places, step, outs, number, 0, card.places);
     take_back(places);
     end_case();

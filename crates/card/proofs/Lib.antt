@@ -4,6 +4,7 @@ pub mod Searches
 pub mod Sweeps
 pub mod States
 pub mod Steps
+pub mod CountCases
 pub mod Shifts
 pub mod Moves
 pub mod Forms
@@ -19,6 +20,7 @@ pub mod Blocks
 pub mod Totals
 pub mod TotalBound
 pub mod ValidStates
+pub mod StepCounts
 pub mod Determined
 pub mod Spans
 pub mod Full

@@ -2,7 +2,7 @@
 use mathlib.Core.Path.{_≡_, refl, sym, ap, subst, _∙_}
 use mathlib.Core.Logic.{_≢_}
 use mathlib.Core.Bool.{Bool, true, false, cond}
-use mathlib.Core.List.{List, [], _∷_, _++_}
+use mathlib.Core.List.{List, [], _∷_, _++_, map}
 use Prim.Native.Nat.{ℕ, zero, suc, _+_, _≤_, _<_}
 use native.Mathlib.Nat.{mul-le-mul-right}
 use native.Mathlib.Omega.{arith}
@@ -12,9 +12,9 @@ use lib.Seq.{drop-at, take-at, length-take-le}
 use borrow.Author.Tests.{le-leb, eqb-true, ne-eqb}
 use Rattle.terms.specs.Reads.{Read, readOf, ReadOk, ReadsOk}
 use Rattle.terms.specs.Ranges.{inRange, size, volume, block, priority}
-use Rattle.card.specs.Rule.{keyOf, place, oneLower, afterRead}
-use Rattle.card.specs.Run.{blockRead, wanted, empty, next, run, cardAfter}
-use Rattle.card.specs.State.{every, isEmpty, isKey, largestKey, apart, isState, stepOf, stepping, refusing}
+use Rattle.card.specs.Rule.{keyOf, place, oneLower, outcomeOn, afterRead}
+use Rattle.card.specs.Run.{blockRead, wanted, empty, next, run, cardAfter, outcomes}
+use Rattle.card.specs.State.{every, isEmpty, isKey, largestKey, apart, isState, Answer, Outcome, Stepped, stepOf, stepping, refusing}
 use Rattle.card.proofs.Tests.{by-eq, tests, and-both, both-and}
 use Rattle.card.proofs.States.{in-range-most}
 use Rattle.card.proofs.AfterRead.{length-after, apart-after, every-after, every-take}
@@ -121,37 +121,53 @@ state-stays m places v b p room low ok = rw ok (go (inRange volume v) (inRange p
 
 -- ---- steps from the empty state
 
+-- the step of a read
+abbrev stepFor : ℕ → List ℕ → Read → Stepped
+stepFor m places r = stepOf m places (r .volume) (r .block) (r .priority)
+
 -- the places after steps
 abbrev pub steps : ℕ → List ℕ → List Read → List ℕ
 steps m places [] = places
-steps m places (r ∷ rs) = steps m (stepOf m places (r .volume) (r .block) (r .priority) .places) rs
+steps m places (r ∷ rs) = steps m (stepFor m places r .places) rs
+
+-- what they answered in turn
+abbrev pub answers : ℕ → List ℕ → List Read → List Answer
+answers m places [] = []
+answers m places (r ∷ rs) = stepFor m places r .answer ∷ answers m (stepFor m places r .places) rs
 
 module _ (m k : ℕ) where
   step-next : (c : List ℕ) (r : Read) → length c ≡ m → Valid m (c ++ empty k) → ReadOk r
-      → stepOf m (c ++ empty k) (r .volume) (r .block) (r .priority) .places ≡ next c r ++ empty k
+      → stepFor m (c ++ empty k) r ≡ record { answer = Outcome (outcomeOn c (blockRead r) (wanted r)); size = m; places = next c r ++ empty k }
   unfolding stepOf
   step-next c r e v ok = rw (of-valid m (c ++ empty k) v, ok .0, ok .2, take-at c (empty k) m e, drop-at c (empty k) m e)
 
-  steps-from : (rs : List Read) (c : List ℕ) → length c ≡ m → Valid m (c ++ empty k) → ReadsOk rs → steps m (c ++ empty k) rs ≡ run c rs ++ empty k
-  steps-from [] c e v ok = refl
+  steps-from : (rs : List Read) (c : List ℕ) → length c ≡ m → Valid m (c ++ empty k) → ReadsOk rs
+      → (steps m (c ++ empty k) rs ≡ run c rs ++ empty k) × (answers m (c ++ empty k) rs ≡ map Outcome (outcomes c rs))
+  steps-from [] c e v ok = (refl, refl)
   steps-from (r ∷ rs) c e v ok =
       let here = step-next c r e v (ok .0) in
-      ap (λ (l : List ℕ). steps m l rs) here
-      ∙ steps-from rs (next c r) (length-after c (blockRead r) (wanted r) (wanted-some r) ∙ e) (subst (Valid m) (whole c r e) (valid-after m (c ++ empty k) (omega (arith, length-append c (empty k))) v (blockRead r) (wanted r) (key-some r) (wanted-some r) (key-valid (r .volume) (r .block) (ok .0 .0) (in-range-most block (r .block) (ok .0 .1))))) (ok .1)
+      let more = steps-from rs (next c r) (length-after c (blockRead r) (wanted r) (wanted-some r) ∙ e) (subst (Valid m) (whole c r e) (valid-after m (c ++ empty k) (omega (arith, length-append c (empty k))) v (blockRead r) (wanted r) (key-some r) (wanted-some r) (key-valid (r .volume) (r .block) (ok .0 .0) (in-range-most block (r .block) (ok .0 .1))))) (ok .1) in
+      (ap (λ (s : Stepped). steps m (s .places) rs) here ∙ more .0, ap (λ (s : Stepped). s .answer ∷ answers m (s .places) rs) here ∙ ap (λ (l : List Answer). Outcome (outcomeOn c (blockRead r) (wanted r)) ∷ l) (more .1))
     where
       whole : (c : List ℕ) (r : Read) → length c ≡ m → afterRead (take m (c ++ empty k)) (blockRead r) (wanted r) ++ drop m (c ++ empty k) ≡ next c r ++ empty k
       whole c r e = rw (take-at c (empty k) m e, drop-at c (empty k) m e)
 
-  -- the state that steps reach from the empty one is the run's card, with empty places after it
-  pub steps-run : inRange size m ≡ true → (rs : List Read) → ReadsOk rs → steps m (empty (m + k)) rs ≡ cardAfter m rs ++ empty k
-  steps-run h rs ok =
-      ap (λ (l : List ℕ). steps m l rs) (sym (replicate-append-replicate m k 0))
-      ∙ steps-from rs (empty m) (length-replicate m 0) start ok
-    where
-      start : Valid m (empty m ++ empty k)
-      start = record {
-        ranged = h;
-        past = rw (drop-at (empty m) (empty k) m (length-replicate m 0)) (every-empty isEmpty refl k);
-        keys = every-append isKey (empty m) (empty k) (every-empty isKey empty-key m) (every-empty isKey empty-key k);
-        once = apart-past (empty m) (empty k) (every-empty isEmpty refl k) ∙ apart-card m [];
-      }
+  module _ (h : inRange size m ≡ true) (rs : List Read) (ok : ReadsOk rs) where
+    from-empty : (steps m (empty m ++ empty k) rs ≡ cardAfter m rs ++ empty k) × (answers m (empty m ++ empty k) rs ≡ map Outcome (outcomes (empty m) rs))
+    from-empty = steps-from rs (empty m) (length-replicate m 0) start ok
+      where
+        start : Valid m (empty m ++ empty k)
+        start = record {
+          ranged = h;
+          past = rw (drop-at (empty m) (empty k) m (length-replicate m 0)) (every-empty isEmpty refl k);
+          keys = every-append isKey (empty m) (empty k) (every-empty isKey empty-key m) (every-empty isKey empty-key k);
+          once = apart-past (empty m) (empty k) (every-empty isEmpty refl k) ∙ apart-card m [];
+        }
+
+    -- the state that steps reach from the empty one is the run's card, with empty places after it
+    pub steps-run : steps m (empty (m + k)) rs ≡ cardAfter m rs ++ empty k
+    steps-run = ap (λ (l : List ℕ). steps m l rs) (sym (replicate-append-replicate m k 0)) ∙ from-empty .0
+
+    -- and they answer the run's outcomes
+    pub steps-answer : answers m (empty (m + k)) rs ≡ map Outcome (outcomes (empty m) rs)
+    steps-answer = ap (λ (l : List ℕ). answers m l rs) (sym (replicate-append-replicate m k 0)) ∙ from-empty .1

@@ -1,4 +1,5 @@
-// Cards of one size: one read on a card, the step with its state, and the miss ratio.
+// Cards of one size: one read on a card, the step with its state, the counts of its outcomes, and the miss ratio.
+pub mod counts;
 pub mod places;
 pub mod ratio;
 mod state;

@@ -16,10 +16,8 @@ use Rattle.card.specs.Answers.{answerOf, steppedAnswer, ratioAnswer}
 use Rattle.card.specs.declared.step.Stepped.{Stepped}
 use Rattle.card.specs.declared.ratio.MissRatio.{MissRatio}
 use Rattle.card.specs.declared.ratio.MissRatio.the-variants as the-ratio
-use Rattle.sheet_text.specs.Sheet.{shown}
-use Rattle.supharoek.specs.Told.{placesLent, stepTold, stepCall, placesAfter}
+use Rattle.supharoek.specs.Told.{Tells, placesLent, stepTold, noRoom, stepCall, placesAfter}
 use Rattle.supharoek.specs.Ratios.{ratioNumber, ratioAfter}
-use Rattle.supharoek.proofs.Tellings.{shown-none}
 
 -- ---- places that are written over
 
@@ -48,20 +46,18 @@ first-is first places before h l e =
 
 -- ---- what a step tells
 
-module _ (size : ℕ) (places : List ℕ) (v b p : ℕ) (out : List ℕ) {n : ℕ} where
-  pub no-room : length places < placesLent → n ≡ numberOf the-refusal.Room
-      → (n ≡ stepCall size places v b p .number) × (out ≡ shown (stepCall size places v b p .values) out) × (places ≡ placesAfter size places v b p)
+module _ (size : ℕ) (places : List ℕ) (v b p : ℕ) (out : List ℕ) {n : ℕ} {told : List ℕ} where
+  pub no-room : length places < placesLent → Tells noRoom n out told → Tells (stepCall size places v b p) n out told × (places ≡ placesAfter size places v b p)
   unfolding stepCall placesAfter
-  no-room h e = rw (lt-leb placesLent (length places) h) (e, shown-none out, refl)
+  no-room h t = rw (lt-leb placesLent (length places) h) (t, refl)
 
-  pub stepped : {first : List ℕ} (s : Stepped) {after told : List ℕ} → placesLent ≤ length places → first ≡ take placesLent places
+  pub stepped : {first : List ℕ} (s : Stepped) {after : List ℕ} → placesLent ≤ length places → first ≡ take placesLent places
       → steppedAnswer s ≡ stepOf size first v b p → length (s .card .places) ≡ placesLent
       → after ≡ s .card .places ++ drop (length (s .card .places)) places
-      → (n ≡ stepTold (answerOf (s .answer)) .number) × (told ≡ shown (stepTold (answerOf (s .answer)) .values) out)
-      → (n ≡ stepCall size places v b p .number) × (told ≡ shown (stepCall size places v b p .values) out) × (after ≡ placesAfter size places v b p)
+      → Tells (stepTold (answerOf (s .answer))) n out told
+      → Tells (stepCall size places v b p) n out told × (after ≡ placesAfter size places v b p)
   unfolding stepCall placesAfter
-  stepped s h f e l w t =
-      rw (le-leb placesLent (length places) h, ← f, ← e) (t .0, t .1, w ∙ ap (λ (k : ℕ). s .card .places ++ drop k places) l)
+  stepped s h f e l w t = rw (le-leb placesLent (length places) h, ← f, ← e) (t, w ∙ ap (λ (k : ℕ). s .card .places ++ drop k places) l)
 
 -- ---- the miss ratio
 

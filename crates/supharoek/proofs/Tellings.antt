@@ -6,11 +6,7 @@ use Rattle.trace.specs.Writing as writing
 use Rattle.trace.specs.Answers.{writtenAnswer}
 use Rattle.trace.specs.declared.Written.{Written}
 use Rattle.sheet_text.specs.Sheet.{shown}
-use Rattle.supharoek.specs.Told.{Told, tells, writingTold}
-
--- what a call has told, and what it should
-abbrev pub Tells : Told → (r : ℕ) (out last : List ℕ) → Type 0
-Tells t r out last = (r ≡ t .number) × (last ≡ shown (t .values) out)
+use Rattle.supharoek.specs.Told.{Told, tells, Tells, writingTold}
 
 -- one case of what a function of the library answered, and what is told of it
 pub told-case : {A B : Type 0} (answer : A → B) (told : B → Told) (out last : List ℕ) (a : A) (b : B) → answer a ≡ b → (case : A) → a ≡ case

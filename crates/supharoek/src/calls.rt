@@ -16,13 +16,12 @@ ghost use Rattle.trace.specs.Writing.{headerWriting, recordWriting, bufferAfter
 ghost use Rattle.sizes.specs.Outcome.{runOf};
 ghost use Rattle.sizes.specs.Answers.{areasOf, AreasAre};
 ghost use Rattle.sheet_text.specs.Sheet.{sheetOf, shown};
-ghost use Rattle.supharoek.specs.Told.{headerTold, recordTold, writingTold, runTold};
+ghost use Rattle.supharoek.specs.Told.{Tells, headerTold, recordTold, writingTold, runTold};
 
 // Reads a header: edition, size, length; or the place of the refusal.
 #[no_mangle]
 pub extern "C" fn supharoek_read_header(trace: &[u8], out: &mut [u64]) -> u32
-    ensures { λ r. ⌜ (r ≡ headerTold (headerAt (now (trace .entry)) 0) .number)
-        × (now (out .exit) ≡ shown (headerTold (headerAt (now (trace .entry)) 0) .values) (now (out .entry))) ⌝ }
+    ensures { λ r. ⌜ Tells (headerTold (headerAt (now (trace .entry)) 0)) r (now (out .entry)) (now (out .exit)) ⌝ }
 {
     match trace::header::read_header(trace) {
         Header::Accepted {
@@ -44,8 +43,7 @@ pub extern "C" fn supharoek_read_header(trace: &[u8], out: &mut [u64]) -> u32
 // Reads a record from the start of a part of a trace: volume, block, priority, length; or the place of the refusal.
 #[no_mangle]
 pub extern "C" fn supharoek_read_record(part: &[u8], out: &mut [u64]) -> u32
-    ensures { λ r. ⌜ (r ≡ recordTold (recordAt (now (part .entry)) 0) .number)
-        × (now (out .exit) ≡ shown (recordTold (recordAt (now (part .entry)) 0) .values) (now (out .entry))) ⌝ }
+    ensures { λ r. ⌜ Tells (recordTold (recordAt (now (part .entry)) 0)) r (now (out .entry)) (now (out .exit)) ⌝ }
 {
     match trace::record::read_record(part) {
         Record::Read {
@@ -67,7 +65,7 @@ pub extern "C" fn supharoek_read_record(part: &[u8], out: &mut [u64]) -> u32
 
 // What a writer answered: the length, or nothing.
 fn tell_written(out: &mut [u64], written: Written) -> u32
-    ensures { λ r. ⌜ (r ≡ writingTold (writtenAnswer written) .number) × (now (out .exit) ≡ shown (writingTold (writtenAnswer written) .values) (now (out .entry))) ⌝ }
+    ensures { λ r. ⌜ Tells (writingTold (writtenAnswer written)) r (now (out .entry)) (now (out .exit)) ⌝ }
 {
     match written {
         Written::Length(n) => {
@@ -87,8 +85,7 @@ pub extern "C" fn supharoek_write_header(
     size: u64,
     out: &mut [u64],
 ) -> u32
-    ensures told { λ r. ⌜ (r ≡ writingTold (headerWriting (headerOf edition size) (length (now (buffer .entry))) at) .number)
-        × (now (out .exit) ≡ shown (writingTold (headerWriting (headerOf edition size) (length (now (buffer .entry))) at) .values) (now (out .entry))) ⌝ }
+    ensures told { λ r. ⌜ Tells (writingTold (headerWriting (headerOf edition size) (length (now (buffer .entry))) at)) r (now (out .entry)) (now (out .exit)) ⌝ }
     ensures buffer { λ r. ⌜ now (buffer .exit) ≡ bufferAfter (headerWriting (headerOf edition size) (length (now (buffer .entry))) at) (now (buffer .entry)) at (spellings (headerValues (headerOf edition size))) ⌝ }
 {
     let written = trace::header::write_header(buffer, at, edition, size);
@@ -105,8 +102,7 @@ pub extern "C" fn supharoek_write_record(
     priority: u64,
     out: &mut [u64],
 ) -> u32
-    ensures told { λ r. ⌜ (r ≡ writingTold (recordWriting (readOf volume block priority) (length (now (buffer .entry))) at) .number)
-        × (now (out .exit) ≡ shown (writingTold (recordWriting (readOf volume block priority) (length (now (buffer .entry))) at) .values) (now (out .entry))) ⌝ }
+    ensures told { λ r. ⌜ Tells (writingTold (recordWriting (readOf volume block priority) (length (now (buffer .entry))) at)) r (now (out .entry)) (now (out .exit)) ⌝ }
     ensures buffer { λ r. ⌜ now (buffer .exit) ≡ bufferAfter (recordWriting (readOf volume block priority) (length (now (buffer .entry))) at) (now (buffer .entry)) at (spellings (readValues (readOf volume block priority))) ⌝ }
 {
     let written = trace::record::write_record(buffer, at, volume, block, priority);
@@ -122,8 +118,7 @@ pub extern "C" fn supharoek_run(
     counts: &mut [u64],
     out: &mut [u64],
 ) -> u32
-    ensures told { λ r. ⌜ (r ≡ runTold (runOf (now (trace .entry)) (areasOf (now (blocks .entry)) (now (stretches .entry)) (now (counts .entry))) .answer) .number)
-        × (now (out .exit) ≡ shown (runTold (runOf (now (trace .entry)) (areasOf (now (blocks .entry)) (now (stretches .entry)) (now (counts .entry))) .answer) .values) (now (out .entry))) ⌝ }
+    ensures told { λ r. ⌜ Tells (runTold (runOf (now (trace .entry)) (areasOf (now (blocks .entry)) (now (stretches .entry)) (now (counts .entry))) .answer)) r (now (out .entry)) (now (out .exit)) ⌝ }
     ensures areas { λ r. ⌜ AreasAre (runOf (now (trace .entry)) (areasOf (now (blocks .entry)) (now (stretches .entry)) (now (counts .entry))) .areas) (now (blocks .exit)) (now (stretches .exit)) (now (counts .exit)) ⌝ }
 {
     match sizes::run::run(trace, blocks, stretches, counts) {

@@ -100,6 +100,23 @@ enum fault {
     last_place_taken, /* the last place need not be empty after the size */
     priority_tested_first, /* the step tests the priority before the volume */
     refused_step_told, /* a refused step tells its number */
+    step_room_untold, /* a step with too few places tells no place */
+    hit_untold, /* the step tells the outcome alone */
+    hit_bypass_missed, /* the step tells a hit bypass as a miss */
+    insert_hits, /* the step tells an insert as a hit */
+
+    /* counts */
+    count_of_five, /* five counts are taken */
+    many_counts_refused, /* more than 65,535 counts are refused */
+    count_room_untold, /* too few counts are refused without the place */
+    count_8_bits, /* the outcome to be counted is cut to 8 bits */
+    count_past, /* a number just past the outcomes is counted as the last one */
+    all_counted, /* a number past the outcomes is counted where there are counts for it */
+    bypasses_one_slot, /* both kinds of bypass share a count */
+    count_wraps, /* a full count begins again */
+    count_32_bits, /* a count stops at 32 bits */
+    full_count_told, /* an outcome is told as added to a full count */
+    nothing_untold, /* where nothing is added, nothing is told */
 
     /* ratios */
     ratio_float, /* the ratio is worked out in 32 bits */

@@ -1,4 +1,4 @@
-/* The step for one size, and the miss ratio. */
+/* The step for one size, the counts of its outcomes, and the miss ratio. */
 #include <string.h>
 
 #include "library.h"
@@ -64,15 +64,48 @@ uint32_t supharoek_step(size_t size, uint64_t *places, size_t places_length, uin
                         uint64_t priority, uint64_t *out, size_t out_length) {
     size_t looked_at = fault == step_size_8_bits ? size % 256 : size;
     uint32_t number = step_refusal(looked_at, places, places_length, volume, priority);
-    uint64_t told = number;
+    uint64_t told[] = {number == SUPHAROEK_ROOM ? 0 : number, 0};
     if (number == 0)
-        told = read_places(places, looked_at, key_of(volume, fault == step_block_31_bits ? block % 2147483648u : block),
-                           priority);
+        told[0] = read_places(places, looked_at,
+                              key_of(volume, fault == step_block_31_bits ? block % 2147483648u : block), priority);
+    told[1] = told[0] < SUPHAROEK_INSERT - (fault == hit_bypass_missed) + (fault == insert_hits);
     if (fault == beyond_written && places_length > SUPHAROEK_LARGEST)
         places[SUPHAROEK_LARGEST] = 0;
-    if (number == 0 || fault == refused_step_told)
-        tell(out, out_length, &told, 1);
+    if (number == 0)
+        tell(out, out_length, told, fault == hit_untold ? 1 : 2);
+    else if (number == SUPHAROEK_ROOM ? fault != step_room_untold : fault == refused_step_told)
+        tell(out, out_length, told, 1);
     return number;
+}
+
+/* The slot of an outcome; past the counts for a number that is none. */
+static size_t slot_of(uint32_t outcome) {
+    if (fault == count_8_bits)
+        outcome = (uint8_t)outcome;
+    if (fault == bypasses_one_slot && outcome == SUPHAROEK_MISS_BYPASS)
+        return SUPHAROEK_HIT_BYPASS;
+    if (fault == count_past && outcome == SUPHAROEK_OUTCOMES)
+        return SUPHAROEK_OUTCOMES - 1;
+    return outcome;
+}
+
+uint32_t supharoek_count(uint32_t outcome, uint64_t *counts, size_t counts_length, uint64_t *out, size_t out_length) {
+    uint64_t told = 0;
+    size_t slot = slot_of(outcome), slots = fault == all_counted ? counts_length : SUPHAROEK_OUTCOMES;
+    if (counts_length < SUPHAROEK_OUTCOMES - (fault == count_of_five) || (fault == many_counts_refused && counts_length > 65535)) {
+        if (fault != count_room_untold)
+            tell(out, out_length, &told, 1);
+        return SUPHAROEK_ROOM;
+    }
+    if (slot < slots && slot < counts_length && (counts[slot] != UINT64_MAX || fault == count_wraps)) {
+        counts[slot] += fault == count_32_bits && counts[slot] == UINT32_MAX ? 0 : 1;
+        told = 1;
+    }
+    if (fault == full_count_told && slot < slots)
+        told = 1;
+    if (told || fault != nothing_untold)
+        tell(out, out_length, &told, 1);
+    return 0;
 }
 
 uint32_t supharoek_ratio(uint64_t misses, uint64_t reads, double *ratio) {

@@ -10,7 +10,7 @@ use Rattle.supharoek.proofs.steps.supharoek_step.Tie as tie
 
 returns : tie.Need-returns
 unfolding size
-returns c = no-room _ _ _ _ _ (c .before .before .before .before .args .out .now) (c .before .if1 .taken) (c .refusal-number .ensures)
+returns c = no-room _ _ _ _ _ (c .before .before .before .before .before .before .before .before .args .out .now) (c .before .before .before .before .before .if1 .taken) (c .refusal-number .ensures, c .before .before .before .tell-one .ensures)
 
 returns-2 : tie.Need-returns-2
 unfolding size
@@ -26,6 +26,8 @@ supharoek-step-spec =
     tie.close
     (tie.spec
     (λ c κs. search needs)
+    (λ c κs. search needs)
+    (λ c. search needs)
     returns
     (λ c κs. search needs)
     (λ c κs. search needs)

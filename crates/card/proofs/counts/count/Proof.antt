@@ -1,0 +1,33 @@
+-- `card::counts::count` meets its contract: each way out is a case of what counting answers and leaves. Assumes nothing.
+use borrow.Author.Needs.{needs}
+use Rattle.card.proofs.CountCases.{few-counts, slotless, full, one-more}
+use Rattle.card.proofs.counts.count.Statement.{statement}
+use Rattle.card.proofs.counts.count.Tie as tie
+
+returns : tie.Need-returns
+returns c = few-counts _ _ (c .if1 .taken)
+
+returns-2 : tie.Need-returns-2
+returns-2 c = slotless _ _ (c .before .before .if1 .left) _ (c .before .slot-of .ensures) (c .if2 .taken)
+
+returns-3 : tie.Need-returns-3
+returns-3 c = full _ _ (c .before .before .before .before .if1 .left) _ (c .before .before .before .slot-of .ensures) (c .before .before .if2 .left) (c .if3 .taken)
+
+returns-4 : tie.Need-returns-4
+returns-4 c = one-more _ _ (c .before .before .before .before .if1 .left) _ (c .before .before .before .slot-of .ensures) (c .before .before .if2 .left) (c .if3 .left)
+
+pub count-spec : {M : Type 1} → statement M
+count-spec =
+    tie.close
+    (tie.spec
+    returns
+    (λ c κs. search needs)
+    returns-2
+    (λ c. search needs)
+    (λ c. search needs)
+    returns-3
+    (λ c. search needs)
+    (λ c. search needs)
+    (λ c. search needs)
+    (λ c. search needs)
+    returns-4)
