@@ -1,13 +1,14 @@
 // Prints the sheet of the trace on standard input, or says on standard error why there is none.
+ghost use mathlib.Core.Path.{_≡_};
 ghost use Prim.Native.Nat.{_≤_};
 ghost use lib.ListN.{length};
+ghost use Rattle.sheet_text.specs.Desk.{printedOf};
+ghost use Rattle.sheet_text.specs.Sheet.{shown, longestSheet};
 use libc::STDIN_FILENO;
 use libc::STDOUT_FILENO;
 use sheet_text::desk::LARGEST_INPUT;
 use sheet_text::desk::desk_sheet;
-
-// The largest size that the program has room for.
-const LARGEST: usize = 127;
+use terms::LARGEST_SIZE;
 
 // No sheet is longer.
 const LONGEST_SHEET: usize = 32768;
@@ -69,12 +70,20 @@ fn write_sheet(sheet: &[u8]) {
     }
 }
 
+// The sheet of an input as text, from the input alone: the areas have room for every trace.
+fn sheet_of(input: &[u8], text: &mut [u8]) -> usize
+    ensures text { λ r. ⌜ (r ≡ length (printedOf (now (input .entry)))) × (now (text .exit) ≡ shown (printedOf (now (input .entry))) (now (text .entry))) ⌝ }
+    ensures short { λ r. ⌜ r ≤ longestSheet ⌝ }
+{
+    let mut blocks = [0u64; LARGEST_SIZE];
+    let mut stretches = [0u16; 2 * LARGEST_SIZE * ((LARGEST_SIZE + 1) / 2)];
+    let mut counts = [0u64; 6 * LARGEST_SIZE];
+    desk_sheet(input, &mut blocks, &mut stretches, &mut counts, text)
+}
+
 fn print_sheet(input: &[u8]) {
-    let mut blocks = [0u64; LARGEST];
-    let mut stretches = [0u16; LARGEST * (LARGEST + 1)];
-    let mut counts = [0u64; 6 * LARGEST];
     let mut text = [0u8; LONGEST_SHEET];
-    let written = desk_sheet(input, &mut blocks, &mut stretches, &mut counts, &mut text);
+    let written = sheet_of(input, &mut text);
     write_sheet(&text[..written]);
 }
 

@@ -18,7 +18,7 @@ use Rattle.sheet_text.specs.Sheet.{cell, sizeIn, longestSheet}
 
 -- ---- the size
 
-size-within : (s : List ℕ) (x : Reading Header) → headerAt s 0 ≡ x → sizeIn x ≤ size .largest
+pub size-within : (s : List ℕ) (x : Reading Header) → headerAt s 0 ≡ x → sizeIn x ≤ size .largest
 size-within s (Given h at) e = header-in s (the-header.Accepted (h .edition) (h .size) at) (sym e) (h .edition) (h .size) at refl .1
 size-within s (Refused number place) e = omega arith
 

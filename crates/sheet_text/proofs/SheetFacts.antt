@@ -1,21 +1,27 @@
 -- What follows from the sheet's contract: the sheet of an accepted trace in terms of the separate runs, and that the contract leaves one outcome.
 use mathlib.Core.Path.{_≡_, refl, sym, ap, ap₂, _∙_}
-use mathlib.Core.Bool.{true}
+use mathlib.Core.Bool.{true, cond}
 use mathlib.Core.List.{List, _++_}
-use Prim.Native.Nat.{ℕ, zero, suc, _+_, _*_, _<_}
+use Prim.Native.Nat.{ℕ, zero, suc, _+_, _*_, _≤_, _<_}
 use native.Mathlib.Omega.{arith}
 use lib.ListN.{length, drop, List·getD-append}
+use borrow.Author.Tests.{le-leb}
+use Rattle.terms.specs.declared.Refusal.the-variants.{Large}
+use Rattle.terms.specs.Refusals.{numberOf}
+use Rattle.terms.specs.Ranges.{size}
 use Rattle.terms.specs.Reads.{Read}
-use Rattle.trace.specs.Reading.{Given}
+use Rattle.trace.specs.Reading.{Reading, Given, Refused, headerAt}
 use Rattle.trace.specs.Trace.{Trace, traceOf}
 use Rattle.card.specs.Run.{count}
 use Rattle.card.specs.Stretches.{peakTotal, peakOfOne}
-use Rattle.sizes.specs.Outcome.{Areas, isRoom, countsOf, fronted, runOf}
-use Rattle.sizes.specs.Answers.{AreasAre}
+use Rattle.sizes.specs.Outcome.{Areas, stretchesLength, countsLength, isRoom, countsOf, fronted, runOf}
+use Rattle.sizes.specs.Answers.{areasOf, AreasAre}
 use Rattle.sizes.proofs.RanOutcomes.{counts-length}
 use Rattle.sizes.proofs.RanFacts.{Accepted, done-accepted, accepted-done, count-at, areas-determined}
-use Rattle.sheet_text.specs.Sheet.{heading, cell, sixOf, lineOf, linesOf, sheetOf, shown}
-use Rattle.sheet_text.proofs.Bounds.{trace-size}
+use Rattle.sizes.proofs.RoomFacts.{room-less, answer-by-trace}
+use Rattle.sheet_text.specs.Sheet.{heading, cell, sixOf, lineOf, linesOf, refusedLine, sheetOf, shown}
+use Rattle.sheet_text.specs.Desk.{largestInput, isLarge, deskSheetOf, printedBy, printedOf}
+use Rattle.sheet_text.proofs.Bounds.{size-within, trace-size}
 
 -- ---- lines with the same counts
 
@@ -61,6 +67,31 @@ module _ (s : List ℕ) (areas : Areas) (t : Trace) (end : ℕ) where
     sheet-by-runs =
         sheet-fronted ∙ ap (λ (x : List ℕ). heading (length rs) (peakTotal n rs) (peakOfOne n rs) ++ x)
         (lines-same (cell (fronted (countsOf n rs) (areas .counts))) (λ m o. count (suc m) o rs) n (λ m o h g. front-cell m o h g ∙ count-at n rs m o h g))
+
+-- ---- areas with room for the largest size
+
+module _ (s blocks stretches counts : List ℕ) (h : size .largest ≤ length blocks) (g : stretchesLength (size .largest) ≤ length stretches) (f : countsLength (size .largest) ≤ length counts) where
+  abbrev areas : Areas
+  areas = areasOf blocks stretches counts
+
+  room : isRoom (size .largest) areas ≡ true
+  room = rw (le-leb (size .largest) (length blocks) h, le-leb (stretchesLength (size .largest)) (length stretches) g, le-leb (countsLength (size .largest)) (length counts) f)
+
+  sheet-printed : (x : Reading Trace) → traceOf s ≡ x → sheetOf s areas ≡ printedBy x
+  unfolding sheetOf
+  sheet-printed (Given t end) e =
+      sheet-by-runs s areas t end e (room-less areas (t .header .size) (size .largest) (omega (arith, trace-size s t end e, size-within s (headerAt s 0) refl)) room)
+  sheet-printed (Refused number place) e = rw (answer-by-trace s areas room, e)
+
+  -- the sheet comes from the input alone
+  pub desk-printed : deskSheetOf s (areasOf blocks stretches counts) ≡ printedOf s
+  unfolding deskSheetOf printedOf
+  desk-printed = ap (λ (x : List ℕ). cond (isLarge s) (refusedLine (numberOf Large) largestInput) x) (sheet-printed (traceOf s) refl)
+
+  pub text-printed : (before : List ℕ) {r : ℕ} {after : List ℕ}
+      → (r ≡ length (deskSheetOf s (areasOf blocks stretches counts))) × (after ≡ shown (deskSheetOf s (areasOf blocks stretches counts)) before)
+      → (r ≡ length (printedOf s)) × (after ≡ shown (printedOf s) before)
+  text-printed before e = rw desk-printed at e
 
 -- ---- one outcome
 

@@ -35,4 +35,5 @@ pub mod PassRoom
 pub mod PassEnds
 pub mod RanOutcomes
 pub mod RanFacts
+pub mod RoomFacts
 pub mod PassFinish

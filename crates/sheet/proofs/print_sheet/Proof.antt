@@ -10,11 +10,8 @@ print-sheet-spec =
     tie.close
     (tie.spec
     (λ c. search needs)
-    (λ c. search needs)
-    (λ c. search needs)
-    (λ c. search needs)
     (λ c κs. search needs)
     (λ c. search needs)
-    (λ c. let sheet = c .before .before .before .before .before .desk-sheet in simp length-take (omega (arith, sheet .ensures .1 .0, sheet .kept .1 .1 .1 .1 .0)))
+    (λ c. let sheet = c .before .before .sheet-of in simp length-take (omega (arith, sheet .ensures .1, sheet .kept .1 .0)))
     (λ c κs. search needs)
     (λ c. search needs))
