@@ -2,7 +2,6 @@
 use Prim.Native.Nat.{ℕ}
 use mathlib.Core.List.{List, [], _∷_, map}
 use mathlib.Core.Path.{_≡_, refl}
-use Rattle.terms.specs.Refusals.{numberOf}
 use Rattle.terms.specs.Ranges.{edition, size, block}
 use Rattle.terms.specs.Reads.{Read, readOf}
 use Rattle.trace.specs.Number as number
@@ -22,7 +21,7 @@ pub data Question : Type 0 where
 -- 0 and the values, or the refusal's number, and its place where it has one
 abbrev numeralAnswer : number.Numeral → List ℕ
 numeralAnswer (number.Value v n) = 0 ∷ v ∷ n ∷ []
-numeralAnswer (number.Fault refusal) = numberOf refusal ∷ []
+numeralAnswer (number.Fault n) = n ∷ []
 
 abbrev headerAnswer : reading.Reading reading.Header → List ℕ
 headerAnswer (reading.Given h at) = 0 ∷ h .edition ∷ h .size ∷ at ∷ []

@@ -48,7 +48,7 @@ module _ {A : Type 0} where
       go : (r : Numeral) → onward at (tested range i r next) ≡ tested range (at + i) r after
       go (Value v n) =
           onward-cond at (inRange range v) (next v (i + n)) _ ∙ ap (λ (x : Reading A). cond (inRange range v) x (Refused (numberOf (range .refusal)) (at + i))) (f v (i + n) ∙ ap (after v) (sym (add-assoc at i n)))
-      go (Fault refusal) = refl
+      go (Fault number) = refl
 
 onward-record : (s : List ℕ) (at : ℕ) → onward at (recordAt (drop at s) 0) ≡ recordAt s at
 unfolding recordAt

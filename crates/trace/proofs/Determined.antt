@@ -24,7 +24,7 @@ one-number : (x y : Number) → numberAnswer x ≡ numberAnswer y → x ≡ y
 one-number (the-number.Value v n) (the-number.Value w m) e = cc
 one-number (the-number.Value v n) (the-number.Refused r) e = cc
 one-number (the-number.Refused r) (the-number.Value w m) e = cc
-one-number (the-number.Refused r) (the-number.Refused q) e = cc
+one-number (the-number.Refused r) (the-number.Refused q) e = ap the-number.Refused (one-refusal r q (cc))
 
 one-header : (x y : Header) → headerAnswer x ≡ headerAnswer y → x ≡ y
 one-header (the-header.Accepted e n l) (the-header.Accepted f m k) q =

@@ -32,7 +32,7 @@ module _ {A : Type 0} where
     where
       go : (r : Numeral) → Holds (NumberIn s at) r → Within from (length s) (tested range at r next)
       go (Value v n) b = within-cond from (length s) (inRange range v) (next v (at + n)) _ (f v (at + n) (omega arith) (omega arith)) (h, g)
-      go (Fault refusal) b = (h, g)
+      go (Fault number) b = (h, g)
 
 pub header-within : (s : List ℕ) (at : ℕ) → at ≤ length s → Within at (length s) (headerAt s at)
 unfolding headerAt

@@ -11,9 +11,9 @@ use Rattle.terms.specs.Refusals.{numberOf}
 use Rattle.terms.specs.Ranges.{Range, inRange, block}
 use Rattle.trace.specs.declared.number.Number.{Number}
 use Rattle.trace.specs.declared.number.Number.the-variants as the-number
-use Rattle.trace.specs.Number.{Value, numberAt, topByte, bytesBefore}
+use Rattle.trace.specs.Number.{Value, numberAt, topByte, bytesBefore, faultOf}
 use Rattle.trace.specs.Reading.{Reading, Refused, field}
-use Rattle.trace.specs.Answers.{numberAnswer, faultOf}
+use Rattle.trace.specs.Answers.{numberAnswer}
 use Rattle.trace.specs.Bounds.{numberLimit}
 use Rattle.trace.proofs.Numbers.{Holds, Bounded, numeral-bounded}
 
@@ -37,7 +37,7 @@ bounded s at a e v n g = subst (Holds (NumberIn s at)) (sym e ∙ ap numberAnswe
 -- ---- the ways out of a field, from the answer of the number reader
 
 module _ {A : Type 0} (range : Range) (s : List ℕ) (at : ℕ) (next : ℕ → ℕ → Reading A) (a : Number) (e : numberAnswer a ≡ numberAt s at) where
-  pub no-number : (refusal why : Refusal) → a ≡ the-number.Refused refusal → why ≡ faultOf a → Refused (numberOf why) at ≡ field range s at next
+  pub no-number : (refusal why : Refusal) → a ≡ the-number.Refused refusal → numberOf why ≡ faultOf (numberAnswer a) → Refused (numberOf why) at ≡ field range s at next
   no-number refusal why g f = rw (f, ← e, g)
 
   module _ (v n : ℕ) (g : a ≡ the-number.Value v n) where

@@ -10,6 +10,7 @@ use mir.Val.{Fits}
 use mir.Syntax.{w64}
 use Rattle.terms.specs.declared.Refusal.{Refusal}
 use Rattle.terms.specs.declared.Refusal.the-variants.{Cut, Form}
+use Rattle.terms.specs.Refusals.{numberOf}
 use Rattle.trace.specs.declared.number.Number.{Number}
 use Rattle.trace.specs.declared.number.Number.the-variants as the-number
 use Rattle.trace.specs.Number.{Numeral, Value, Fault, after, numeral, topByte, bytesBefore}
@@ -21,7 +22,7 @@ use Rattle.trace.proofs.Numbers.{numeral-cut, numeral-last, numeral-mor
 
 module _ (byte : ℕ) (rest : Number) where
   module _ (v n : ℕ) (e : rest ≡ the-number.Value v n) where
-    pub zero-last : v ≡ 0 → Fault Form ≡ after byte (numberAnswer rest)
+    pub zero-last : v ≡ 0 → Fault (numberOf Form) ≡ after byte (numberAnswer rest)
     zero-last h = rw (e, h)
 
     pub longer : (v ≡ 0 → ⊥) → Value (byte % 128 + 128 * v) (n + 1) ≡ after byte (numberAnswer rest)
@@ -40,16 +41,16 @@ module _ (byte : ℕ) (rest : Number) where
       pub length-fits : Fits w64 (n + 1)
       length-fits = omega (arith, small)
 
-  pub passed-on : (refusal : Refusal) → rest ≡ the-number.Refused refusal → Fault refusal ≡ after byte (numberAnswer rest)
+  pub passed-on : (refusal : Refusal) → rest ≡ the-number.Refused refusal → Fault (numberOf refusal) ≡ after byte (numberAnswer rest)
   passed-on refusal e = rw e
 
 -- ---- the number from a place on
 
 module _ (top left : ℕ) (s : List ℕ) (i : ℕ) where
-  pub at-end : length s ≤ i → Fault Cut ≡ numeral top left (drop i s)
+  pub at-end : length s ≤ i → Fault (numberOf Cut) ≡ numeral top left (drop i s)
   at-end h = sym (numeral-cut top left s i h)
 
-  pub over-top : left ≡ 0 → i < length s → top < getD s i 0 → Fault Form ≡ numeral top left (drop i s)
+  pub over-top : left ≡ 0 → i < length s → top < getD s i 0 → Fault (numberOf Form) ≡ numeral top left (drop i s)
   over-top e lt h = rw (e, numeral-last top s i lt, lt-leb (getD s i 0) top h)
 
   pub last-of-all : left ≡ 0 → i < length s → getD s i 0 ≤ top → Value (getD s i 0) 1 ≡ numeral top left (drop i s)

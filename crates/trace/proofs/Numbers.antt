@@ -10,22 +10,23 @@ use lib.Seq.{drop-cons}
 use lib.Dec.{ltb, leb}
 use borrow.Author.Tests.{leb-true, ltb-true}
 use Rattle.terms.specs.declared.Refusal.the-variants.{Cut, Form}
+use Rattle.terms.specs.Refusals.{numberOf}
 use Rattle.trace.specs.Number.{Numeral, Value, Fault, after, numeral, topByte, bytesBefore}
 use Rattle.trace.specs.Bounds.{limit, Small}
 
 -- ---- one byte of a number
 
-numeral-nil : (top left : ℕ) → numeral top left [] ≡ Fault Cut
+numeral-nil : (top left : ℕ) → numeral top left [] ≡ Fault (numberOf Cut)
 unfolding numeral
 numeral-nil top zero = refl
 numeral-nil top (suc left) = refl
 
-pub numeral-cut : (top left : ℕ) (s : List ℕ) (i : ℕ) → length s ≤ i → numeral top left (drop i s) ≡ Fault Cut
+pub numeral-cut : (top left : ℕ) (s : List ℕ) (i : ℕ) → length s ≤ i → numeral top left (drop i s) ≡ Fault (numberOf Cut)
 numeral-cut top left s i h = ap (numeral top left) (drop-of-length-le s h) ∙ numeral-nil top left
 
 -- the last byte that may stand there
 pub numeral-last : (top : ℕ) (s : List ℕ) (i : ℕ) → i < length s
-    → numeral top 0 (drop i s) ≡ cond (leb (getD s i 0) top) (Value (getD s i 0) 1) (Fault Form)
+    → numeral top 0 (drop i s) ≡ cond (leb (getD s i 0) top) (Value (getD s i 0) 1) (Fault (numberOf Form))
 unfolding numeral
 numeral-last top s i h = ap (numeral top 0) (drop-cons s i 0 h)
 
@@ -47,7 +48,7 @@ after-value byte (suc v) n h = refl
 -- it holds of a value and its length, if these are what was read
 abbrev pub Holds : (ℕ → ℕ → Type 0) → Numeral → Type 0
 Holds P (Value v n) = P v n
-Holds P (Fault refusal) = Unit
+Holds P (Fault number) = Unit
 
 pub holds-cond : (P : ℕ → ℕ → Type 0) (t : Bool) (x y : Numeral) → (t ≡ true → Holds P x) → (t ≡ false → Holds P y) → Holds P (cond t x y)
 holds-cond P true x y f g = f refl
@@ -57,11 +58,11 @@ pub holds-after : (P Q : ℕ → ℕ → Type 0) (byte : ℕ) (r : Numeral)
     → ((v n : ℕ) → 1 ≤ v → P v n → Q (byte % 128 + 128 * v) (n + 1)) → Holds P r → Holds Q (after byte r)
 holds-after P Q byte (Value zero n) f h = tt
 holds-after P Q byte (Value (suc v) n) f h = f (suc v) n (omega arith) h
-holds-after P Q byte (Fault refusal) f h = tt
+holds-after P Q byte (Fault number) f h = tt
 
 pub holds-weaker : (P Q : ℕ → ℕ → Type 0) (r : Numeral) → ((v n : ℕ) → P v n → Q v n) → Holds P r → Holds Q r
 holds-weaker P Q (Value v n) f h = f v n h
-holds-weaker P Q (Fault refusal) f h = tt
+holds-weaker P Q (Fault number) f h = tt
 
 -- ---- bounds
 
@@ -83,7 +84,7 @@ pub numeral-bounded : (top left : ℕ) (s : List ℕ) → Holds (Bounded (limit 
 unfolding numeral
 numeral-bounded top zero [] = tt
 numeral-bounded top zero (byte ∷ s) =
-    holds-cond (Bounded (limit top 0) 1 (suc (length s))) (leb byte top) (Value byte 1) (Fault Form)
+    holds-cond (Bounded (limit top 0) 1 (suc (length s))) (leb byte top) (Value byte 1) (Fault (numberOf Form))
     (λ e. omega (arith, leb-true byte top e))
     (λ e. tt)
 numeral-bounded top (suc left) [] = tt
@@ -94,7 +95,7 @@ numeral-bounded top (suc left) (byte ∷ s) =
 
 small-of : (limited most room : ℕ) (r : Numeral) → limited ≤ 2 ^ 56 → most < 2 ^ 32 → Holds (Bounded limited most room) r → Small r
 small-of limited most room (Value v n) p q h = omega arith
-small-of limited most room (Fault refusal) p q h = tt
+small-of limited most room (Fault number) p q h = tt
 
 -- a number of the format has room for one byte more
 pub numeral-small : (left : ℕ) (s : List ℕ) → left ≤ bytesBefore → Small (numeral topByte left s)

@@ -16,6 +16,7 @@ use Rattle.terms.specs.Reads.{ReadOk}
 use Rattle.trace.specs.Reading.{Reading, Given, Refused, tested, field, Header, headerAt, recordAt}
 use Rattle.trace.specs.Spelling.{spell, spelling, spellings, headerValues, readValues, Bytes}
 use Rattle.terms.specs.declared.Refusal.the-variants.{Form}
+use Rattle.terms.specs.Refusals.{numberOf}
 use Rattle.trace.proofs.Numbers.{Holds, holds-cond, holds-after}
 use Rattle.trace.proofs.Fields.{NumberIn, number-in}
 use Rattle.trace.proofs.Spellings.{spell-low, length-cons}
@@ -41,7 +42,7 @@ pub numeral-spelled : (top left : ℕ) (s : List ℕ) → Bytes s → Holds (Spe
 unfolding numeral spell
 numeral-spelled top zero [] y = tt
 numeral-spelled top zero (byte ∷ s) y =
-    holds-cond (SpelledAs zero (byte ∷ s)) (leb byte top) (Value byte 1) (Fault Form) (λ e. refl) (λ e. tt)
+    holds-cond (SpelledAs zero (byte ∷ s)) (leb byte top) (Value byte 1) (Fault (numberOf Form)) (λ e. refl) (λ e. tt)
 numeral-spelled top (suc left) [] y = tt
 numeral-spelled top (suc left) (byte ∷ s) y =
     holds-cond (SpelledAs (suc left) (byte ∷ s)) (ltb byte 128) (Value byte 1) (after byte (numeral top left s))
@@ -98,7 +99,7 @@ module _ {A : Type 0} where
     where
       go : (r : Numeral) → numberAt s at ≡ r → Gives P (tested range at r next)
       go (Value v n) e = gives-cond P (inRange range v) (next v (at + n)) _ (f v n e) (λ t. tt)
-      go (Fault refusal) e = tt
+      go (Fault number) e = tt
 
 -- the fields are in their ranges
 abbrev pub HeaderOk : Header → Type 0

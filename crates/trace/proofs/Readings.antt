@@ -15,10 +15,10 @@ use Rattle.terms.specs.Ranges.{inRange, edition, size, volume, block, priority}
 use Rattle.trace.specs.declared.number.Number.{Number}
 use Rattle.trace.specs.declared.number.Number.the-variants.{Value}
 use Rattle.trace.specs.declared.number.Number.the-variants as the-number
-use Rattle.trace.specs.Number.{numberAt, bytesBefore}
+use Rattle.trace.specs.Number.{numberAt, bytesBefore, faultOf}
 use Rattle.terms.specs.Reads.{Read, readOf}
 use Rattle.trace.specs.Reading.{Reading, Given, Refused, field, Header, headerAt, headerOf, recordAt}
-use Rattle.trace.specs.Answers.{numberAnswer, faultOf}
+use Rattle.trace.specs.Answers.{numberAnswer}
 use Rattle.trace.proofs.Fields.{block-any, bounded, no-number, out-of-range, goes-on, passes}
 
 -- ---- the lengths of numbers that were read, added up
@@ -43,7 +43,7 @@ abbrev editionNext : List ℕ → ℕ → ℕ → Reading Header
 editionNext s e at = field size s at (sizeNext e)
 
 module _ (s : List ℕ) (first : Number) (e₁ : numberAnswer first ≡ numberAt s 0) where
-  pub no-edition : (refusal why : Refusal) → first ≡ the-number.Refused refusal → why ≡ faultOf first → Refused (numberOf why) 0 ≡ headerAt s 0
+  pub no-edition : (refusal why : Refusal) → first ≡ the-number.Refused refusal → numberOf why ≡ faultOf (numberAnswer first) → Refused (numberOf why) 0 ≡ headerAt s 0
   unfolding headerAt
   no-edition = no-number edition s 0 (editionNext s) first e₁
 
@@ -57,7 +57,7 @@ module _ (s : List ℕ) (first : Number) (e₁ : numberAnswer first ≡ numberAt
       unfolding headerAt
       to-size = passes edition s 0 (editionNext s) first e₁ v n g₁ t₁ i₁ o₁ ∙ ap (editionNext s v) (zero-add n)
 
-      pub no-size : (refusal why : Refusal) → second ≡ the-number.Refused refusal → why ≡ faultOf second → Refused (numberOf why) n ≡ headerAt s 0
+      pub no-size : (refusal why : Refusal) → second ≡ the-number.Refused refusal → numberOf why ≡ faultOf (numberAnswer second) → Refused (numberOf why) n ≡ headerAt s 0
       no-size refusal why g f = no-number size s n (sizeNext v) second e₂ refusal why g f ∙ sym to-size
 
       module _ (w m : ℕ) (g₂ : second ≡ Value w m) (t₂ : Bool) (i₂ : t₂ ≡ inRange size w) where
@@ -82,7 +82,7 @@ abbrev volumeNext : List ℕ → ℕ → ℕ → Reading Read
 volumeNext s v at = field block s at (blockNext s v)
 
 module _ (s : List ℕ) (first : Number) (e₁ : numberAnswer first ≡ numberAt s 0) where
-  pub no-volume : (refusal why : Refusal) → first ≡ the-number.Refused refusal → why ≡ faultOf first → Refused (numberOf why) 0 ≡ recordAt s 0
+  pub no-volume : (refusal why : Refusal) → first ≡ the-number.Refused refusal → numberOf why ≡ faultOf (numberAnswer first) → Refused (numberOf why) 0 ≡ recordAt s 0
   unfolding recordAt
   no-volume = no-number volume s 0 (volumeNext s) first e₁
 
@@ -96,7 +96,7 @@ module _ (s : List ℕ) (first : Number) (e₁ : numberAnswer first ≡ numberAt
       unfolding recordAt
       to-block = passes volume s 0 (volumeNext s) first e₁ v n g₁ t₁ i₁ o₁ ∙ ap (volumeNext s v) (zero-add n)
 
-      pub no-block : (refusal why : Refusal) → second ≡ the-number.Refused refusal → why ≡ faultOf second → Refused (numberOf why) n ≡ recordAt s 0
+      pub no-block : (refusal why : Refusal) → second ≡ the-number.Refused refusal → numberOf why ≡ faultOf (numberAnswer second) → Refused (numberOf why) n ≡ recordAt s 0
       no-block refusal why g f = no-number block s n (blockNext s v) second e₂ refusal why g f ∙ sym to-block
 
       module _ (b m : ℕ) (g₂ : second ≡ Value b m) where
@@ -104,7 +104,7 @@ module _ (s : List ℕ) (first : Number) (e₁ : numberAnswer first ≡ numberAt
           to-priority : recordAt s 0 ≡ field priority s (n + m) (priorityNext v b)
           to-priority = to-block ∙ goes-on block s n (blockNext s v) second e₂ b m g₂ (block-any b (bounded s n second e₂ b m g₂ .0))
 
-          pub no-priority : (refusal why : Refusal) → third ≡ the-number.Refused refusal → why ≡ faultOf third → Refused (numberOf why) (n + m) ≡ recordAt s 0
+          pub no-priority : (refusal why : Refusal) → third ≡ the-number.Refused refusal → numberOf why ≡ faultOf (numberAnswer third) → Refused (numberOf why) (n + m) ≡ recordAt s 0
           no-priority refusal why g f = no-number priority s (n + m) (priorityNext v b) third e₃ refusal why g f ∙ sym to-priority
 
           module _ (p k : ℕ) (g₃ : third ≡ Value p k) (t₃ : Bool) (i₃ : t₃ ≡ inRange priority p) where

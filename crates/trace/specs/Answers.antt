@@ -1,7 +1,5 @@
 -- What each answer of the code says, in the table's numbers and the format's values.
 use Rattle.terms.specs.Refusals.{numberOf}
-use Rattle.terms.specs.declared.Refusal.{Refusal}
-use Rattle.terms.specs.declared.Refusal.the-variants.{Form}
 use Rattle.terms.specs.Reads.{Read, readOf}
 use Rattle.trace.specs.Number as number
 use Rattle.trace.specs.Reading as reading
@@ -18,7 +16,7 @@ use Rattle.trace.specs.declared.Written.the-variants as the-written
 -- the answer of the number reader
 abbrev pub numberAnswer : Number → number.Numeral
 numberAnswer (the-number.Value v n) = number.Value v n
-numberAnswer (the-number.Refused refusal) = number.Fault refusal
+numberAnswer (the-number.Refused refusal) = number.Fault (numberOf refusal)
 
 -- of the header reader
 abbrev pub headerAnswer : Header → reading.Reading reading.Header
@@ -34,8 +32,3 @@ recordAnswer (the-record.Refused refusal place) = reading.Refused (numberOf refu
 abbrev pub writtenAnswer : Written → writing.Writing
 writtenAnswer (the-written.Length n) = writing.Length n
 writtenAnswer (the-written.Refused refusal) = writing.Refused (numberOf refusal)
-
--- the refusal of what is no number
-abbrev pub faultOf : Number → Refusal
-faultOf (the-number.Value v n) = Form
-faultOf (the-number.Refused refusal) = refusal

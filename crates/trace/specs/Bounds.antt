@@ -20,4 +20,4 @@ Spelled (v ∷ vs) = (v < numberLimit) × Spelled vs
 -- one byte more fits 64 bits
 abbrev pub Small : Numeral → Type 0
 Small (Value v n) = (v < 2 ^ 56) × (n < 2 ^ 32)
-Small (Fault refusal) = Unit
+Small (Fault number) = Unit

@@ -16,7 +16,7 @@ module _ {A : Type 0} where
   -- a number that was read at a place: form comes before range; then its value and the place after it go on
   abbrev pub tested : Range → ℕ → Numeral → (ℕ → ℕ → Reading A) → Reading A
   tested range at (Value v n) next = cond (inRange range v) (next v (at + n)) (Refused (numberOf (range .refusal)) at)
-  tested range at (Fault refusal) next = Refused (numberOf refusal) at
+  tested range at (Fault number) next = Refused number at
 
   -- one number from a place on
   abbrev pub field : Range → List ℕ → ℕ → (ℕ → ℕ → Reading A) → Reading A

@@ -3,8 +3,9 @@ use terms::Refusal;
 ghost use mathlib.Core.Path.{_≡_};
 ghost use Prim.Native.Nat.{_≤_};
 ghost use lib.ListN.{drop};
-ghost use Rattle.trace.specs.Number.{numeral, numberAt, after, topByte, bytesBefore};
-ghost use Rattle.trace.specs.Answers.{numberAnswer, faultOf};
+ghost use Rattle.terms.specs.Refusals.{numberOf};
+ghost use Rattle.trace.specs.Number.{numeral, numberAt, after, topByte, bytesBefore, faultOf};
+ghost use Rattle.trace.specs.Answers.{numberAnswer};
 ghost use Rattle.trace.specs.Bounds.{Small};
 
 // A value and its length in bytes.
@@ -63,7 +64,7 @@ pub fn read_number(part: &[u8], at: usize) -> Number
 
 // The refusal of an answer that is no number.
 pub fn fault(answer: Number) -> Refusal
-    ensures { λ r. ⌜ r ≡ faultOf answer ⌝ }
+    ensures { λ r. ⌜ numberOf r ≡ faultOf (numberAnswer answer) ⌝ }
 {
     match answer {
         Number::Value(_, _) => Refusal::Form,
