@@ -7,25 +7,22 @@ use native.Mathlib.Nat.{add-zero, add-assoc, mod-eq-of-lt}
 use native.Mathlib.Omega.{arith}
 use lib.ListN.{length, take, drop}
 use lib.Seq.{drop-drop}
-use lib.Dec.{leb}
-use borrow.Author.Tests.{leb-true}
 use borrow.Rule.Slice.PartAt.{part-to-end}
 use Rattle.terms.specs.declared.Refusal.{Refusal}
 use Rattle.terms.specs.Refusals.{numberOf}
 use Rattle.terms.specs.Ranges.{Range, inRange, volume, block, priority}
+use Rattle.terms.proofs.Ranges.{bounds}
 use Rattle.terms.specs.Reads.{Read, readOf, ReadOk}
 use Rattle.trace.specs.declared.record.Record.{Record}
 use Rattle.trace.specs.declared.record.Record.the-variants as the-record
 use Rattle.trace.specs.Number.{Numeral, Value, Fault, numeral, numberAt, topByte, bytesBefore}
 use Rattle.trace.specs.Reading.{Reading, Given, Refused, tested, field, recordAt}
 use Rattle.trace.specs.Answers.{recordAnswer}
-use Rattle.trace.proofs.Numbers.{Holds}
-use Rattle.trace.proofs.Fields.{NumberIn, number-in}
 use Rattle.trace.proofs.Ends.{Within, record-within}
-use Rattle.trace.proofs.OneSpelling.{Gives, gives-field}
+use Rattle.trace.proofs.OneSpelling.{Gives}
+use Rattle.trace.proofs.Lengths.{record-given, record-length}
 use Rattle.card.specs.Rule.{keyOf}
 use Rattle.card.specs.Run.{blockRead}
-use Rattle.card.proofs.Tests.{and-both}
 use Rattle.card.proofs.Inclusion.{key-some}
 
 -- ---- the part that starts at a place
@@ -70,22 +67,10 @@ module _ (s : List ℕ) (at : ℕ) (a : Record) (e : recordAnswer a ≡ recordAt
 
 -- ---- what holds of a record
 
-number-byte : (s : List ℕ) (at v n : ℕ) → numberAt s at ≡ Value v n → 1 ≤ n
-number-byte s at v n e = omega (arith, subst (Holds (NumberIn s at)) e (number-in s at))
-
--- it has three numbers, each with a byte, in their ranges
-record-good : (s : List ℕ) (at : ℕ) → Gives (λ r end. ReadOk r × (at + 3 ≤ end)) (recordAt s at)
-unfolding recordAt
-record-good s at =
-    gives-field _ volume s at _
-    (λ v n₁ e₁ r₁. gives-field _ block s (at + n₁) _
-    (λ b n₂ e₂ r₂. gives-field _ priority s (at + n₁ + n₂) _
-    (λ p n₃ e₃ r₃. ((r₁, r₂, r₃), omega (arith, number-byte s at v n₁ e₁, number-byte s (at + n₁) b n₂ e₂, number-byte s (at + n₁ + n₂) p n₃ e₃)))))
-
+-- its numbers are in their ranges, and it has three bytes and ends within the bytes
 pub given-good : (s : List ℕ) (at : ℕ) (r : Read) (end : ℕ) → at ≤ length s → recordAt s at ≡ Given r end → ReadOk r × (at + 3 ≤ end) × (end ≤ length s)
 given-good s at r end h e =
-    let good = subst (Gives (λ r end. ReadOk r × (at + 3 ≤ end))) e (record-good s at) in
-    (good .0, good .1, subst (Within at (length s)) e (record-within s at h) .1)
+    (subst (Gives _) e (record-given s at) .0, record-length s at r end e .0, subst (Within at (length s)) e (record-within s at h) .1)
 
 pub refused-in : (s : List ℕ) (at number place : ℕ) → at ≤ length s → recordAt s at ≡ Refused number place → place ≤ length s
 refused-in s at number place h e = subst (Within at (length s)) e (record-within s at h) .1
@@ -93,7 +78,7 @@ refused-in s at number place h e = subst (Within at (length s)) e (record-within
 -- ---- its key
 
 in-range : (range : Range) (v : ℕ) → inRange range v ≡ true → v % suc (range .largest) ≡ v
-in-range range v h = let low = leb-true v (range .largest) (and-both (leb (range .least) v) (leb v (range .largest)) h .1) in mod-eq-of-lt (omega arith)
+in-range range v h = mod-eq-of-lt (omega (arith, bounds range v h))
 
 pub key-same : (r : Read) (key : ℕ) → ReadOk r → key ≡ keyOf (r .volume % suc (volume .largest)) (r .block % suc (block .largest)) → blockRead r ≡ key
 key-same r key ok e = rw (e, in-range volume (r .volume) (ok .0), in-range block (r .block) (ok .1))

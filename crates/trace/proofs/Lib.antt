@@ -8,6 +8,7 @@ pub mod PutNumbers
 pub mod Writings
 pub mod Ends
 pub mod OneSpelling
+pub mod Lengths
 pub mod RoundTrip
 pub mod WholeTrace
 pub mod Determined

@@ -6,8 +6,8 @@ use Prim.Native.Nat.{ℕ, zero, suc, _+_, _-_, _*_, _/_, _%_, _≤_, _<_}
 use native.Mathlib.Numerals.{add-one}
 use native.Mathlib.Nat.{add-zero}
 use native.Mathlib.Omega.{arith}
-use lib.ListN.{length, take, drop, length-drop, take-append-drop}
-use lib.Seq.{getD-drop, drop-drop, length-take-le}
+use lib.ListN.{length, take, drop, take-append-drop}
+use lib.Seq.{getD-drop, drop-drop}
 use lib.Dec.{ltb, leb}
 use borrow.Author.Tests.{le-ltb, ltb-true, ltb-false}
 use Rattle.terms.specs.Ranges.{Range, inRange, edition, size, volume, block, priority}
@@ -49,6 +49,29 @@ numeral-spelled top (suc left) (byte ∷ s) y =
     (λ e. sym (spell-low (suc left) byte (ltb-true byte 128 e)))
     (λ e. holds-after (SpelledAs left s) (SpelledAs (suc left) (byte ∷ s)) byte (numeral top left s) (λ v n one h. spelled-after left byte s v n (ltb-false byte 128 e) (y 0) one h) (numeral-spelled top left s (λ i. y (suc i))))
 
+long-after : (left byte v n : ℕ) → 1 ≤ v → length (spell left v) ≡ n → length (spell (suc left) (byte % 128 + 128 * v)) ≡ n + 1
+unfolding spell
+long-after left byte v n one h =
+    rw (le-ltb (byte % 128 + 128 * v) 128 (omega arith)) (omega (arith, h, ap (λ (w : ℕ). length (spell left w)) rest))
+  where
+    rest : (byte % 128 + 128 * v) / 128 ≡ v
+    rest = omega arith
+
+numeral-long : (top left : ℕ) (s : List ℕ) → Holds (λ v n. length (spell left v) ≡ n) (numeral top left s)
+unfolding numeral spell
+numeral-long top zero [] = tt
+numeral-long top zero (byte ∷ s) =
+    holds-cond (λ v n. length (spell zero v) ≡ n) (leb byte top) (Value byte 1) (Fault (numberOf Form)) (λ e. refl) (λ e. tt)
+numeral-long top (suc left) [] = tt
+numeral-long top (suc left) (byte ∷ s) =
+    holds-cond (λ v n. length (spell (suc left) v) ≡ n) (ltb byte 128) (Value byte 1) (after byte (numeral top left s))
+    (λ e. ap length (spell-low (suc left) byte (ltb-true byte 128 e)))
+    (λ e. holds-after (λ v n. length (spell left v) ≡ n) (λ v n. length (spell (suc left) v) ≡ n) byte (numeral top left s) (λ v n one h. long-after left byte v n one h) (numeral-long top left s))
+
+-- a number that was read is as long as its spelling, whatever stands there
+pub number-long : (s : List ℕ) (at v n : ℕ) → numberAt s at ≡ Value v n → length (spelling v) ≡ n
+number-long s at v n e = subst (Holds (λ w m. length (spelling w) ≡ m)) e (numeral-long topByte bytesBefore (drop at s))
+
 -- ---- values one after the other
 
 -- from a place to an end stand the spellings of values
@@ -71,15 +94,9 @@ module _ (s : List ℕ) (y : Bytes s) (at : ℕ) where
 
   pub spells-more : (v n end : ℕ) (vs : List ℕ) → numberAt s at ≡ Value v n → Spells s (at + n) end vs → Spells s at end (v ∷ vs)
   spells-more v n end vs e h = (
-    omega (arith, long, h .0, both),
+    omega (arith, number-long s at v n e, h .0, length-cons v vs),
     sym (take-append-drop n (drop at s)) ∙ ap₂ (λ (k m : List ℕ). k ++ m) (number-spelled v n e .0) (drop-drop n at s ∙ h .1) ∙ sym (append-assoc (spelling v) (spellings vs) (drop end s)),
   )
-    where
-      long : length (spelling v) ≡ n
-      long = sym (ap length (number-spelled v n e .0)) ∙ length-take-le n (drop at s) (omega (arith, length-drop at s, number-spelled v n e .1))
-
-      both : length (spellings (v ∷ vs)) ≡ length (spelling v) + length (spellings vs)
-      both = length-cons v vs
 
 -- ---- headers and records
 

@@ -17,7 +17,7 @@ use Rattle.trace.specs.Spelling.{spell, spelling, spellings, headerValue
 use Rattle.trace.specs.Writing.{Writing, Length, Refused, ranged, spaced, put, headerWriting, recordWriting}
 use Rattle.trace.specs.Bounds.{limit, numberLimit}
 use Rattle.trace.proofs.Numbers.{after-value}
-use Rattle.trace.proofs.Spellings.{length-cons}
+use Rattle.trace.proofs.Spellings.{header-values-length, read-values-length}
 use Rattle.trace.proofs.Writings.{in-range-low, ranges-low}
 use Rattle.trace.proofs.OneSpelling.{HeaderOk}
 
@@ -70,7 +70,7 @@ header-back s at h rest ok e =
     let e₁ = rest-spelled s at (h .edition) (h .size ∷ []) rest e in
     field-back s at (h .edition) (h .size ∷ []) rest e edition _ (ranges-low .0) (ok .0)
     ∙ field-back s (at + length (spelling (h .edition))) (h .size) [] rest e₁ size _ (ranges-low .1) (ok .1)
-    ∙ ap (Given h) (omega (arith, length-cons (h .edition) (h .size ∷ []), length-cons (h .size) []))
+    ∙ ap (Given h) (omega (arith, header-values-length h))
 
 pub record-back : (s : List ℕ) (at : ℕ) (r : Read) (rest : List ℕ) → ReadOk r → drop at s ≡ spellings (readValues r) ++ rest
     → recordAt s at ≡ Given r (at + length (spellings (readValues r)))
@@ -81,7 +81,7 @@ record-back s at r rest ok e =
     field-back s at (r .volume) (r .block ∷ r .priority ∷ []) rest e volume _ (ranges-low .2) (ok .0)
     ∙ field-back s (at + length (spelling (r .volume))) (r .block) (r .priority ∷ []) rest e₁ block _ (ranges-low .3) (ok .1)
     ∙ field-back s (at + length (spelling (r .volume)) + length (spelling (r .block))) (r .priority) [] rest e₂ priority _ (ranges-low .4) (ok .2)
-    ∙ ap (Given r) (omega (arith, length-cons (r .volume) (r .block ∷ r .priority ∷ []), length-cons (r .block) (r .priority ∷ []), length-cons (r .priority) []))
+    ∙ ap (Given r) (omega (arith, read-values-length r))
 
 -- ---- what a writer wrote
 

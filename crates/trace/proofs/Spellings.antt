@@ -9,8 +9,10 @@ use lib.ListN.{length, getD, drop, length-append, drop-of-length-le}
 use lib.Seq.{drop-cons}
 use lib.Dec.{ltb}
 use borrow.Author.Tests.{lt-ltb, le-ltb, ltb-false}
+use Rattle.terms.specs.Reads.{Read}
 use Rattle.trace.specs.Number.{topByte, bytesBefore}
-use Rattle.trace.specs.Spelling.{spell, spelling, spellings}
+use Rattle.trace.specs.Reading.{Header}
+use Rattle.trace.specs.Spelling.{spell, spelling, spellings, headerValues, readValues}
 use Rattle.trace.specs.Bounds.{limit, numberLimit, Spelled}
 
 pub spell-low : (left v : ℕ) → v < 128 → spell left v ≡ v ∷ []
@@ -39,7 +41,7 @@ short-cond : (t : Bool) (k : ℕ) (xs ys : List ℕ) → (1 ≤ length xs) × (l
 short-cond true k xs ys f g = f
 short-cond false k xs ys f g = g
 
-spell-short : (left v : ℕ) → (1 ≤ length (spell left v)) × (length (spell left v) ≤ suc left)
+pub spell-short : (left v : ℕ) → (1 ≤ length (spell left v)) × (length (spell left v) ≤ suc left)
 unfolding spell
 spell-short zero v = omega arith
 spell-short (suc left) v =
@@ -65,6 +67,13 @@ length-high v h g = ap length (spelling-high v h g)
 
 pub length-cons : (v : ℕ) (vs : List ℕ) → length (spellings (v ∷ vs)) ≡ length (spelling v) + length (spellings vs)
 length-cons v vs = length-append (spelling v) (spellings vs)
+
+pub header-values-length : (h : Header) → length (spellings (headerValues h)) ≡ length (spelling (h .edition)) + length (spelling (h .size))
+header-values-length h = omega (arith, length-cons (h .edition) (h .size ∷ []), length-cons (h .size) [])
+
+pub read-values-length : (r : Read) → length (spellings (readValues r)) ≡ length (spelling (r .volume)) + length (spelling (r .block)) + length (spelling (r .priority))
+read-values-length r =
+    omega (arith, length-cons (r .volume) (r .block ∷ r .priority ∷ []), length-cons (r .block) (r .priority ∷ []), length-cons (r .priority) [])
 
 -- ---- the values from an index on, one by one
 

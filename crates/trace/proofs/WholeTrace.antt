@@ -10,7 +10,7 @@ use Rattle.terms.specs.Reads.{Read, ReadOk, ReadsOk}
 use Rattle.trace.specs.Reading.{Reading, Given, Refused, Header, headerAt, recordAt}
 use Rattle.trace.specs.Spelling.{spellings, headerValues, readValues, recordsSpelling, traceSpelling, Bytes}
 use Rattle.trace.specs.Trace.{andThen, readsFrom, Trace, traceOf}
-use Rattle.trace.proofs.Spellings.{length-cons, spelling-short}
+use Rattle.trace.proofs.Spellings.{read-values-length, spelling-short}
 use Rattle.trace.proofs.Ends.{Within, header-within, record-within}
 use Rattle.trace.proofs.OneSpelling.{Spells, Gives, gives-cond, HeaderOk, header-spelled, record-spelled}
 use Rattle.trace.proofs.RoundTrip.{drop-past, header-back, record-back}
@@ -59,7 +59,7 @@ record-length : (r : Read) (rs : List Read)
     → (length (recordsSpelling (r ∷ rs)) ≡ length (spellings (readValues r)) + length (recordsSpelling rs)) × (1 ≤ length (spellings (readValues r)))
 record-length r rs = (
   length-append (spellings (readValues r)) (recordsSpelling rs),
-  omega (arith, length-cons (r .volume) (r .block ∷ r .priority ∷ []), spelling-short (r .volume)),
+  omega (arith, read-values-length r, spelling-short (r .volume)),
 )
 
 reads-back : (rs : List Read) (steps : ℕ) (s : List ℕ) (at : ℕ) → ReadsOk rs → at ≤ length s → length s ≤ at + steps → drop at s ≡ recordsSpelling rs

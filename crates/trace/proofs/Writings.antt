@@ -1,12 +1,11 @@
 -- The ways out of the writers, each from what was tested and what the callees said, for `search`.
 use mathlib.Core.Path.{_≡_, sym, ap, _∙_}
 use mathlib.Core.List.{List}
-use mathlib.Core.Bool.{Bool, true, false, not, _&&_}
+use mathlib.Core.Bool.{Bool, true, false, not}
 use Prim.Native.Nat.{ℕ, _+_, _-_, _^_, _≤_, _<_}
 use native.Mathlib.Omega.{arith}
 use lib.ListN.{length}
-use lib.Dec.{leb}
-use borrow.Author.Tests.{lt-leb, le-leb, leb-true, not-true, not-false}
+use borrow.Author.Tests.{lt-leb, le-leb, not-true, not-false}
 use Rattle.terms.specs.declared.Refusal.the-variants.{Edition, Size, Volume, Priority, Space}
 use Rattle.terms.specs.Refusals.{numberOf}
 use Rattle.terms.specs.Ranges.{Range, inRange, edition, size, volume, block, priority}
@@ -15,6 +14,7 @@ use Rattle.trace.specs.Reading.{headerOf}
 use Rattle.trace.specs.Spelling.{spellings, headerValues, readValues}
 use Rattle.trace.specs.Writing.{Writing, Length, Refused, ranged, spaced, headerWriting, recordWriting}
 use Rattle.trace.specs.Bounds.{numberLimit}
+use Rattle.terms.proofs.Ranges.{bounds}
 use Rattle.trace.proofs.Fields.{block-any}
 
 -- ---- space
@@ -43,16 +43,9 @@ module _ (range : Range) (v : ℕ) (t : Bool) (e : t ≡ inRange range v) where
     range-in : (next : Writing) → ranged range v next ≡ next
     range-in next = rw in-range
 
-pub and-right : (a b : Bool) → a && b ≡ true → b ≡ true
-and-right true b e = e
-and-right false b e = absurd-false e
-  where
-    absurd-false : false ≡ true → b ≡ true
-    absurd-false q = cc
-
 -- a value in its range has a spelling
 pub in-range-low : (range : Range) (v : ℕ) → range .largest < numberLimit → inRange range v ≡ true → v < numberLimit
-in-range-low range v h e = omega (arith, leb-true v (range .largest) (and-right (leb (range .least) v) (leb v (range .largest)) e))
+in-range-low range v h e = omega (arith, bounds range v e)
 
 -- each range of the format has spellings
 pub ranges-low : (edition .largest < numberLimit) × (size .largest < numberLimit) × (volume .largest < numberLimit) × (block .largest < numberLimit) × (priority .largest < numberLimit)

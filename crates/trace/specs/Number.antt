@@ -37,7 +37,7 @@ topByte = 15
 abbrev pub numberAt : List ℕ → ℕ → Numeral
 numberAt s at = numeral topByte bytesBefore (drop at s)
 
--- the number of the refusal of what is no number
+-- the refusal's number of what is no number; FORM where it is one, which has no refusal
 abbrev pub faultOf : Numeral → ℕ
 faultOf (Value v n) = numberOf Form
 faultOf (Fault number) = number
