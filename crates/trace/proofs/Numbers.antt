@@ -60,10 +60,6 @@ holds-after P Q byte (Value zero n) f h = tt
 holds-after P Q byte (Value (suc v) n) f h = f (suc v) n (omega arith) h
 holds-after P Q byte (Fault number) f h = tt
 
-pub holds-weaker : (P Q : ℕ → ℕ → Type 0) (r : Numeral) → ((v n : ℕ) → P v n → Q v n) → Holds P r → Holds Q r
-holds-weaker P Q (Value v n) f h = f v n h
-holds-weaker P Q (Fault number) f h = tt
-
 -- ---- bounds
 
 pub limit-pos : (top left : ℕ) → 1 ≤ limit top left
