@@ -1,2 +1,3 @@
 pub mod Refusals
 pub mod Ranges
+pub mod Determined

@@ -1,9 +1,12 @@
 -- The promises leave one answer: any two outcomes that a contract allows for the same input coincide.
-use mathlib.Core.Path.{_≡_, sym, ap, ap₂, _∙_}
+use mathlib.Core.Path.{_≡_, ap, ap₂, _∙_}
 use mathlib.Core.List.{List}
 use Prim.Native.Nat.{ℕ}
 use lib.ListN.{drop}
+use Rattle.terms.specs.declared.Refusal.{Refusal}
+use Rattle.terms.specs.Refusals.{numberOf}
 use Rattle.terms.proofs.Refusals.{one-refusal}
+use Rattle.terms.proofs.Determined.{one-value}
 use Rattle.trace.specs.declared.number.Number.{Number}
 use Rattle.trace.specs.declared.number.Number.the-variants as the-number
 use Rattle.trace.specs.declared.header.Header.{Header}
@@ -56,20 +59,25 @@ one-written (the-written.Refused r) (the-written.Refused s) e = ap the-written.R
 -- ---- the contracts
 
 pub read-number-determined : (s : List ℕ) (at : ℕ) (x y : Number) → numberAnswer x ≡ number.numberAt s at → numberAnswer y ≡ number.numberAt s at → x ≡ y
-read-number-determined s at x y e f = one-number x y (e ∙ sym f)
+read-number-determined s at x y e f = one-number x y (one-value e f)
+
+-- two refusals with one number are one
+pub fault-determined : (answer : Number) (x y : Refusal)
+    → numberOf x ≡ number.faultOf (numberAnswer answer) → numberOf y ≡ number.faultOf (numberAnswer answer) → x ≡ y
+fault-determined answer x y e f = one-refusal x y (one-value e f)
 
 pub read-header-determined : (s : List ℕ) (x y : Header) → headerAnswer x ≡ reading.headerAt s 0 → headerAnswer y ≡ reading.headerAt s 0 → x ≡ y
-read-header-determined s x y e f = one-header x y (e ∙ sym f)
+read-header-determined s x y e f = one-header x y (one-value e f)
 
 pub read-record-determined : (s : List ℕ) (x y : Record) → recordAnswer x ≡ reading.recordAt s 0 → recordAnswer y ≡ reading.recordAt s 0 → x ≡ y
-read-record-determined s x y e f = one-record x y (e ∙ sym f)
+read-record-determined s x y e f = one-record x y (one-value e f)
 
 -- the rest: its bytes and its pointer
 pub rest-determined : (s : List ℕ) (pointer : ℕ × ℕ) (t u : List ℕ) (p q : ℕ × ℕ)
     → (t ≡ drop (reading.restStart (reading.recordAt s 0)) s) × (p ≡ reading.onwards (reading.restStart (reading.recordAt s 0)) pointer)
     → (u ≡ drop (reading.restStart (reading.recordAt s 0)) s) × (q ≡ reading.onwards (reading.restStart (reading.recordAt s 0)) pointer)
     → (t ≡ u) × (p ≡ q)
-rest-determined s pointer t u p q e f = (e .0 ∙ sym (f .0), e .1 ∙ sym (f .1))
+rest-determined s pointer t u p q e f = (one-value (e .0) (f .0), one-value (e .1) (f .1))
 
 -- both writers: the answer and the buffer, whatever is to be written
 pub write-determined : (promised : writing.Writing) (s : List ℕ) (at : ℕ) (xs : List ℕ) (x y : Written) (t u : List ℕ)
@@ -77,5 +85,5 @@ pub write-determined : (promised : writing.Writing) (s : List ℕ) (at : ℕ) (x
     → (writtenAnswer y ≡ promised) × (u ≡ writing.bufferAfter (writtenAnswer y) s at xs)
     → (x ≡ y) × (t ≡ u)
 write-determined promised s at xs x y t u e f =
-    let same : writtenAnswer x ≡ writtenAnswer y = e .0 ∙ sym (f .0) in
-    (one-written x y same, e .1 ∙ ap (λ (w : writing.Writing). writing.bufferAfter w s at xs) same ∙ sym (f .1))
+    let same : writtenAnswer x ≡ writtenAnswer y = one-value (e .0) (f .0) in
+    (one-written x y same, one-value (e .1 ∙ ap (λ (w : writing.Writing). writing.bufferAfter w s at xs) same) (f .1))
