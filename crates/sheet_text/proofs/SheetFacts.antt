@@ -1,5 +1,5 @@
 -- What follows from the sheet's contract: the sheet of an accepted trace in terms of the separate runs, and that the contract leaves one outcome.
-use mathlib.Core.Path.{_≡_, refl, sym, ap, ap₂, _∙_}
+use mathlib.Core.Path.{_≡_, refl, ap, ap₂, _∙_}
 use mathlib.Core.Bool.{true, cond}
 use mathlib.Core.List.{List, _++_}
 use Prim.Native.Nat.{ℕ, zero, suc, _+_, _*_, _≤_, _<_}
@@ -10,6 +10,7 @@ use Rattle.terms.specs.declared.Refusal.the-variants.{Large}
 use Rattle.terms.specs.Refusals.{numberOf}
 use Rattle.terms.specs.Ranges.{size}
 use Rattle.terms.specs.Reads.{Read}
+use Rattle.terms.proofs.Determined.{one-value}
 use Rattle.trace.specs.Reading.{Reading, Given, Refused, headerAt}
 use Rattle.trace.specs.Trace.{Trace, traceOf}
 use Rattle.card.specs.Run.{count}
@@ -20,7 +21,7 @@ use Rattle.sizes.proofs.RanOutcomes.{counts-length}
 use Rattle.sizes.proofs.RanFacts.{Accepted, done-accepted, accepted-done, count-at, areas-determined}
 use Rattle.sizes.proofs.RoomFacts.{room-less, answer-by-trace}
 use Rattle.sheet_text.specs.Sheet.{heading, cell, sixOf, lineOf, linesOf, refusedLine, sheetOf, shown}
-use Rattle.sheet_text.specs.Desk.{largestInput, isLarge, deskSheetOf, printedBy, printedOf}
+use Rattle.sheet_text.specs.Desk.{largestInput, isLarge, deskSheetOf, areasAfter, printedBy, printedOf}
 use Rattle.sheet_text.proofs.Bounds.{size-within, trace-size}
 
 -- ---- lines with the same counts
@@ -95,11 +96,19 @@ module _ (s blocks stretches counts : List ℕ) (h : size .largest ≤ length bl
 
 -- ---- one outcome
 
--- what the contract says of an answer, and of the text and the areas after it
-abbrev pub Meets : (bytes : List ℕ) (areas : Areas) (text : List ℕ) (r : ℕ) (text₁ blocks stretches counts : List ℕ) → Type 0
-Meets bytes areas text r text₁ blocks stretches counts =
-    (r ≡ length (sheetOf bytes areas)) × (text₁ ≡ shown (sheetOf bytes areas) text) × AreasAre (runOf bytes areas .areas) blocks stretches counts
+-- what a contract says of an answer, and of the text and the areas after it, by the sheet and the areas that are meant
+abbrev pub Meets : (sheet : List ℕ) (areas : Areas) (text : List ℕ) (r : ℕ) (text₁ blocks stretches counts : List ℕ) → Type 0
+Meets sheet areas text r text₁ blocks stretches counts = (r ≡ length sheet) × (text₁ ≡ shown sheet text) × AreasAre areas blocks stretches counts
 
-pub sheet-determined : (bytes : List ℕ) (areas : Areas) (text : List ℕ) (r r′ : ℕ) (x b s c x′ b′ s′ c′ : List ℕ)
-    → Meets bytes areas text r x b s c → Meets bytes areas text r′ x′ b′ s′ c′ → (r ≡ r′) × (x ≡ x′) × ((b ≡ b′) × (s ≡ s′) × (c ≡ c′))
-sheet-determined bytes areas text r r′ x b s c x′ b′ s′ c′ e f = (e .0 ∙ sym (f .0), e .1 ∙ sym (f .1), areas-determined (runOf bytes areas .areas) b s c b′ s′ c′ (e .2) (f .2))
+meets-one : (sheet : List ℕ) (areas : Areas) (text : List ℕ) (r r′ : ℕ) (x b s c x′ b′ s′ c′ : List ℕ)
+    → Meets sheet areas text r x b s c → Meets sheet areas text r′ x′ b′ s′ c′ → (r ≡ r′) × (x ≡ x′) × ((b ≡ b′) × (s ≡ s′) × (c ≡ c′))
+meets-one sheet areas text r r′ x b s c x′ b′ s′ c′ e f = (one-value (e .0) (f .0), one-value (e .1) (f .1), areas-determined areas b s c b′ s′ c′ (e .2) (f .2))
+
+module _ (bytes : List ℕ) (areas : Areas) (text : List ℕ) (r r′ : ℕ) (x b s c x′ b′ s′ c′ : List ℕ) where
+  pub sheet-determined : Meets (sheetOf bytes areas) (runOf bytes areas .areas) text r x b s c
+      → Meets (sheetOf bytes areas) (runOf bytes areas .areas) text r′ x′ b′ s′ c′ → (r ≡ r′) × (x ≡ x′) × ((b ≡ b′) × (s ≡ s′) × (c ≡ c′))
+  sheet-determined = meets-one (sheetOf bytes areas) (runOf bytes areas .areas) text r r′ x b s c x′ b′ s′ c′
+
+  pub desk-determined : Meets (deskSheetOf bytes areas) (areasAfter bytes areas) text r x b s c
+      → Meets (deskSheetOf bytes areas) (areasAfter bytes areas) text r′ x′ b′ s′ c′ → (r ≡ r′) × (x ≡ x′) × ((b ≡ b′) × (s ≡ s′) × (c ≡ c′))
+  desk-determined = meets-one (deskSheetOf bytes areas) (areasAfter bytes areas) text r r′ x b s c x′ b′ s′ c′

@@ -11,6 +11,7 @@ use Rattle.terms.specs.declared.Refusal.the-variants.{Room}
 use Rattle.terms.specs.Ranges.{size}
 use Rattle.terms.specs.Reads.{Read}
 use Rattle.terms.proofs.Refusals.{one-refusal}
+use Rattle.terms.proofs.Determined.{one-value}
 use Rattle.trace.specs.Reading.{Reading, Given, Refused, Header, headerAt}
 use Rattle.trace.specs.Trace.{andThen, readsFrom, Trace, traceOf}
 use Rattle.card.specs.Run.{count}
@@ -186,8 +187,8 @@ abbrev pub Meets : Outcome → Ran → (blocks stretches counts : List ℕ) → 
 Meets o r blocks stretches counts = (ranAnswer r ≡ o .answer) × AreasAre (o .areas) blocks stretches counts
 
 pub areas-determined : (areas : Areas) (b s c b′ s′ c′ : List ℕ) → AreasAre areas b s c → AreasAre areas b′ s′ c′ → (b ≡ b′) × (s ≡ s′) × (c ≡ c′)
-areas-determined areas b s c b′ s′ c′ e f = (e .0 ∙ sym (f .0), e .1 ∙ sym (f .1), e .2 ∙ sym (f .2))
+areas-determined areas b s c b′ s′ c′ e f = (one-value (e .0) (f .0), one-value (e .1) (f .1), one-value (e .2) (f .2))
 
 pub run-determined : (bytes : List ℕ) (areas : Areas) (x y : Ran) (b s c b′ s′ c′ : List ℕ)
     → Meets (runOf bytes areas) x b s c → Meets (runOf bytes areas) y b′ s′ c′ → (x ≡ y) × ((b ≡ b′) × (s ≡ s′) × (c ≡ c′))
-run-determined bytes areas x y b s c b′ s′ c′ e f = (one-ran x y (e .0 ∙ sym (f .0)), areas-determined (runOf bytes areas .areas) b s c b′ s′ c′ (e .1) (f .1))
+run-determined bytes areas x y b s c b′ s′ c′ e f = (one-ran x y (one-value (e .0) (f .0)), areas-determined (runOf bytes areas .areas) b s c b′ s′ c′ (e .1) (f .1))

@@ -1,6 +1,6 @@
 -- Areas with room for the largest size have room for every trace: the run's answer then comes from the bytes alone.
-use mathlib.Core.Path.{_≡_, refl, sym}
-use mathlib.Core.Bool.{true, false}
+use mathlib.Core.Path.{_≡_, refl, sym, subst, _∙_}
+use mathlib.Core.Bool.{true}
 use mathlib.Core.List.{List}
 use Prim.Native.Nat.{ℕ, _*_, _≤_}
 use native.Mathlib.Nat.{mul-le-mul}
@@ -12,6 +12,7 @@ use Rattle.terms.specs.Reads.{Read}
 use Rattle.trace.specs.declared.header.Header.the-variants as the-header
 use Rattle.trace.specs.Reading.{Reading, Given, Refused, Header, headerAt}
 use Rattle.trace.specs.Trace.{andThen, readsFrom, Trace, traceOf}
+use Rattle.trace.proofs.Faults.{OfTrace, trace-refused}
 use Rattle.card.specs.Stretches.{half, peakTotal, peakOfOne}
 use Rattle.sizes.specs.Outcome as outcome
 use Rattle.sizes.specs.Outcome.{Areas, blocksLength, stretchesLength, countsLength, isRoom, recorded, headed, runOf}
@@ -57,3 +58,11 @@ module _ (bytes : List ℕ) (areas : Areas) (room : isRoom (size .largest) areas
   pub answer-by-trace : runOf bytes areas .answer ≡ answerTo (traceOf bytes)
   unfolding runOf traceOf
   answer-by-trace = after-header (headerAt bytes 0) refl
+
+  answer-refused : (x : Reading Trace) → traceOf bytes ≡ x → (number place : ℕ) → answerTo x ≡ outcome.Refused number place → OfTrace number
+  answer-refused (Given t end) e number place f = let z : _≡_ {A = ℕ} 0 1 = cc in absurd (omega arith)
+  answer-refused (Refused n at) e number place f = let same : n ≡ number = cc in subst OfTrace same (trace-refused bytes n at e)
+
+  -- what it is refused for is a fault of its own, numbers 1 to 6
+  pub never-room : (number place : ℕ) → runOf bytes areas .answer ≡ outcome.Refused number place → OfTrace number
+  never-room number place e = answer-refused (traceOf bytes) refl number place (sym answer-by-trace ∙ e)

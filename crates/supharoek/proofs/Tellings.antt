@@ -15,10 +15,6 @@ told-case answer told out last a b e case ec number r values et er el =
     let all : told b ≡ tells number values = ap told (sym e ∙ ap answer ec) ∙ et in
     (er ∙ ap (λ (t : Told). t .number) (sym all), el ∙ ap (λ (t : Told). shown (t .values) out) (sym all))
 
--- any two outcomes that a call allows coincide
-pub told-determined : (t : Told) (r r′ : ℕ) (out last last′ : List ℕ) → Tells t r out last → Tells t r′ out last′ → (r ≡ r′) × (last ≡ last′)
-told-determined t r r′ out last last′ a b = (a .0 ∙ sym (b .0), a .1 ∙ sym (b .1))
-
 -- no value leaves the caller's numbers as they are
 pub shown-none : (out : List ℕ) → out ≡ shown [] out
 shown-none [] = refl

@@ -10,9 +10,8 @@ ghost use mathlib.Core.Path.{_≡_};
 ghost use lib.ListN.{length};
 ghost use Rattle.terms.specs.Reads.{readOf};
 ghost use Rattle.trace.specs.Reading.{headerAt, headerOf, recordAt};
-ghost use Rattle.trace.specs.Spelling.{spellings, headerValues, readValues};
 ghost use Rattle.trace.specs.Answers.{writtenAnswer};
-ghost use Rattle.trace.specs.Writing.{headerWriting, recordWriting, bufferAfter};
+ghost use Rattle.trace.specs.Writing.{headerWriting, recordWriting, headerBuffer, recordBuffer};
 ghost use Rattle.sizes.specs.Outcome.{runOf};
 ghost use Rattle.sizes.specs.Answers.{areasOf, AreasAre};
 ghost use Rattle.sheet_text.specs.Sheet.{sheetOf, shown};
@@ -86,7 +85,7 @@ pub extern "C" fn supharoek_write_header(
     out: &mut [u64],
 ) -> u32
     ensures told { λ r. ⌜ Tells (writingTold (headerWriting (headerOf edition size) (length (now (buffer .entry))) at)) r (now (out .entry)) (now (out .exit)) ⌝ }
-    ensures buffer { λ r. ⌜ now (buffer .exit) ≡ bufferAfter (headerWriting (headerOf edition size) (length (now (buffer .entry))) at) (now (buffer .entry)) at (spellings (headerValues (headerOf edition size))) ⌝ }
+    ensures buffer { λ r. ⌜ now (buffer .exit) ≡ headerBuffer (headerOf edition size) (now (buffer .entry)) at ⌝ }
 {
     let written = trace::header::write_header(buffer, at, edition, size);
     tell_written(out, written)
@@ -103,7 +102,7 @@ pub extern "C" fn supharoek_write_record(
     out: &mut [u64],
 ) -> u32
     ensures told { λ r. ⌜ Tells (writingTold (recordWriting (readOf volume block priority) (length (now (buffer .entry))) at)) r (now (out .entry)) (now (out .exit)) ⌝ }
-    ensures buffer { λ r. ⌜ now (buffer .exit) ≡ bufferAfter (recordWriting (readOf volume block priority) (length (now (buffer .entry))) at) (now (buffer .entry)) at (spellings (readValues (readOf volume block priority))) ⌝ }
+    ensures buffer { λ r. ⌜ now (buffer .exit) ≡ recordBuffer (readOf volume block priority) (now (buffer .entry)) at ⌝ }
 {
     let written = trace::record::write_record(buffer, at, volume, block, priority);
     tell_written(out, written)

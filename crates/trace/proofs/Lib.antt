@@ -12,3 +12,4 @@ pub mod Lengths
 pub mod RoundTrip
 pub mod WholeTrace
 pub mod Determined
+pub mod Faults

@@ -43,3 +43,11 @@ put s at xs = take at s ++ (xs ++ drop (at + length xs) s)
 abbrev pub bufferAfter : Writing → List ℕ → ℕ → List ℕ → List ℕ
 bufferAfter (Length n) s at xs = put s at xs
 bufferAfter (Refused number) s at xs = s
+
+-- the buffer after a header is to be written at an offset of it
+abbrev pub headerBuffer : Header → List ℕ → ℕ → List ℕ
+headerBuffer h s at = bufferAfter (headerWriting h (length s) at) s at (spellings (headerValues h))
+
+-- after a record, likewise
+abbrev pub recordBuffer : Read → List ℕ → ℕ → List ℕ
+recordBuffer r s at = bufferAfter (recordWriting r (length s) at) s at (spellings (readValues r))
