@@ -4,7 +4,7 @@ use mathlib.Core.List.{List, [], _∷_}
 use Prim.Native.Nat.{ℕ, zero, suc, _≤_, _<_}
 use native.Mathlib.Omega.{arith}
 use lib.ListN.{length, getD}
-use Rattle.card.specs.Rule.{place, oneLower, outcome, effects, outcomeOn, afterRead}
+use Rattle.card.specs.Rule.{place, oneLower, outcome, effects, outcomeOn, movedFrom, afterRead}
 use Rattle.card.proofs.Tests.{by-lt, by-eq, tests}
 
 module _ (m j p : ℕ) where
@@ -90,16 +90,30 @@ place-in (y ∷ ys) x = by-eq y x (λ e. simp tests (omega arith)) (λ e. simp t
     lower-in zero n h = omega arith
     lower-in (suc j) n h = omega arith
 
--- a read is its place, its outcome and its shift
-pub read-is : (c last : List ℕ) (x p q j n : ℕ) → q ≡ p → j ≡ place c x → n ≡ outcome (length c) j q → last ≡ getD (effects c x j q) n c
+-- a block is moved as its outcome says, from a place of the card and from no other
+pub moved-past : (c : List ℕ) (x j p : ℕ) → length c < j → c ≡ movedFrom c x j p
+unfolding movedFrom
+moved-past c x j p h = simp tests
+
+pub moved-is : (c last : List ℕ) (x j p q n : ℕ) → q ≡ p → j ≤ length c → n ≡ outcome (length c) j q → last ≡ getD (effects c x j q) n c → last ≡ movedFrom c x j p
+unfolding movedFrom
+moved-is c last x j p q n f h g e =
+    simp tests
+    (e ∙ ap (λ (k : ℕ). getD (effects c x j q) k c) g ∙ ap (λ (k : ℕ). getD (effects c x j k) (outcome (length c) j k) c) f)
+
+-- a read moves its block from where it is
+pub moved-read : (c : List ℕ) (x j p : ℕ) → j ≡ place c x → movedFrom c x j p ≡ afterRead c x p
+unfolding movedFrom afterRead
+moved-read c x j p e =
+    let h : place c x ≤ length c = place-in c x in
+    ap (λ (k : ℕ). movedFrom c x k p) e ∙ simp tests refl
+
+-- a read is its place, its outcome and its move
+pub read-is : (c last : List ℕ) (x p q j n : ℕ) → q ≡ p → j ≡ place c x → n ≡ outcome (length c) j q → last ≡ movedFrom c x j p
     → (j ≡ place c x) × (n ≡ outcomeOn c x p) × (last ≡ afterRead c x p)
+read-is c last x p q j n f e g h = (e, g ∙ ap₂ (outcome (length c)) e f, h ∙ moved-read c x j p e)
+
+-- a read that is in no card and is put in none leaves it
+pub read-past : (c : List ℕ) (x p : ℕ) → place c x ≡ 0 → length c < p → c ≡ afterRead c x p
 unfolding afterRead
-read-is c last x p q j n f e g h =
-    let o : n ≡ outcomeOn c x p = g ∙ ap₂ (outcome (length c)) e f in (
-      e,
-      o,
-      h
-          ∙ ap (λ (k : ℕ). getD (effects c x k q) n c) e
-          ∙ ap (λ (k : ℕ). getD (effects c x (place c x) k) n c) f
-          ∙ ap (λ (k : ℕ). getD (effects c x (place c x) p) k c) o,
-    )
+read-past c x p none past = ap (λ (k : ℕ). getD (effects c x (place c x) p) k c) (miss-bypass-is (length c) (place c x) p none past)

@@ -53,6 +53,10 @@ effects c x j p =
     ∷ c
     ∷ []
 
+-- the card after a read of the block with key x, said to be at place j; a card that has no such place stays as it is
+unfoldable pub movedFrom : List ℕ → (x j p : ℕ) → List ℕ
+movedFrom c x j p = cond (leb j (length c)) (getD (effects c x j p) (outcome (length c) j p) c) c
+
 -- the outcome of a read of the block with key x
 abbrev pub outcomeOn : List ℕ → (x p : ℕ) → ℕ
 outcomeOn c x p = outcome (length c) (place c x) p

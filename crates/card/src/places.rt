@@ -3,7 +3,7 @@ ghost use mathlib.Core.Path.{_≡_};
 ghost use Prim.Native.Nat.{suc, _%_, _≤_, max};
 ghost use lib.ListN.{length, getD, take};
 ghost use Rattle.terms.specs.Ranges.{volume, block};
-ghost use Rattle.card.specs.Rule.{keyOf, place, lowered, raised, outcome, effects, outcomeOn, afterRead};
+ghost use Rattle.card.specs.Rule.{keyOf, place, lowered, raised, outcome, effects, outcomeOn, movedFrom, afterRead};
 
 // How many volumes there are, and how many blocks each.
 const VOLUMES: u64 = 65536;
@@ -131,6 +131,18 @@ pub fn at_least_one(priority: usize) -> usize
     priority
 }
 
+// The second half of a read, for a block that was found at place j; a place past the last is none, and nothing moves.
+pub fn move_from(card: &mut [u64], key: u64, j: usize, priority: usize)
+    ensures { λ _. ⌜ now (card .exit) ≡ movedFrom (now (card .entry)) key j (max 1 priority) ⌝ }
+{
+    if card.len() < j {
+        return;
+    }
+    let p = at_least_one(priority);
+    let number = outcome_of(card.len(), j, p);
+    shift(card, number, j, p, key);
+}
+
 // What a read found and did: the place of the block before it, 0 where it was not there, and the outcome's number.
 pub struct Found {
     pub place: usize,
@@ -145,7 +157,7 @@ pub fn read(card: &mut [u64], key: u64, priority: usize) -> Found
     let p = at_least_one(priority);
     let j = place_of(card, key);
     let number = outcome_of(card.len(), j, p);
-    shift(card, number, j, p, key);
+    move_from(card, key, j, priority);
     Found {
         place: j,
         outcome: number,

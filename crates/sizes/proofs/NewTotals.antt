@@ -8,7 +8,7 @@ use lib.Dec.{eqb}
 use lib.ListN.{length, getD}
 use Rattle.terms.specs.Reads.{Read}
 use Rattle.card.specs.Run.{blockRead, wanted, cardAfter}
-use Rattle.card.specs.Stretches.{placesOf, stretches, sumOver, largestOver, total, mostOfOne, largestAfter, peakOfOne, half}
+use Rattle.card.specs.Stretches.{placesOf, stretches, sumOver, largestOver, total, mostOfOne, largestAfter, peakTotal, peakOfOne, half}
 use Rattle.card.proofs.Tests.{by-eq, tests}
 use Rattle.card.proofs.StretchBounds.{stretches-half}
 use Rattle.card.proofs.Inclusion.{length-card}
@@ -98,6 +98,11 @@ most-peak : (n : ℕ) (rs : List Read) → mostOfOne n rs ≤ peakOfOne n rs
 unfolding mostOfOne
 most-peak n [] = omega arith
 most-peak n (r ∷ rs) = peak-last (mostOfOne n) [] r rs
+
+pub total-peak : (n : ℕ) (rs : List Read) → total n rs ≤ peakTotal n rs
+unfolding total
+total-peak n [] = omega arith
+total-peak n (r ∷ rs) = peak-last (total n) [] r rs
 
 most-term : (n : ℕ) (f : ℕ → ℕ) (k : ℕ) → 1 ≤ k → k ≤ n → f k ≤ mostTo n f
 most-term zero f k a b = absurd (omega arith)

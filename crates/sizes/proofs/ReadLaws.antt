@@ -4,7 +4,7 @@ use mathlib.Core.List.{List, [], _∷_, _++_}
 use Prim.Native.Nat.{ℕ, zero, suc, _+_, _-_, _*_, _/_, _%_, _≤_, _<_, max}
 use native.Mathlib.Nat.{div-add-mod'}
 use native.Mathlib.Omega.{arith}
-use lib.ListN.{getD}
+use lib.ListN.{length, getD}
 use Rattle.terms.specs.Ranges.{block}
 use Rattle.terms.specs.Reads.{Read, readOf}
 use Rattle.card.specs.Rule.{keyOf, place, afterRead}
@@ -12,6 +12,7 @@ use Rattle.card.specs.Run.{blockRead, wanted}
 use Rattle.card.specs.Stretches.{placesOf, stretches, peakOfOne}
 use Rattle.card.proofs.Inclusion.{key-some}
 use Rattle.card.proofs.NextPlaces.{run-more}
+use Rattle.card.proofs.OutcomeCases.{read-past}
 use Rattle.card.specs.Falling.{Falling}
 use Rattle.sizes.specs.Moves.{newOf}
 use Rattle.sizes.specs.Totals.{Totals, sumTo, mostTo}
@@ -20,11 +21,13 @@ use Rattle.sizes.specs.Sweeps.{Found}
 use Rattle.sizes.specs.Tallies.{Tallied}
 use Rattle.sizes.specs.Lists.{Holds}
 use Rattle.sizes.specs.TallySteps.{ReadTallied}
-use Rattle.sizes.proofs.PairLists.{pairs-same}
+use Rattle.sizes.proofs.PairLists.{pairs-same, stretches-same}
+use Rattle.sizes.proofs.Clamps.{bypassed}
+use Rattle.sizes.proofs.Exchanges.{sum-same, most-under}
 use Rattle.card.proofs.StretchBounds.{places-fall}
 use Rattle.sizes.proofs.Families.{family, family-is}
 use Rattle.sizes.proofs.NewPlaces.{family-at, new-places}
-use Rattle.sizes.proofs.NewTotals.{totals-more, old-low}
+use Rattle.sizes.proofs.NewTotals.{totals-more, old-low, total-peak}
 use Rattle.sizes.proofs.CountLaws.{tallied-more}
 
 -- every key is that of some read, with any priority
@@ -121,3 +124,27 @@ module _ (n key p j : ℕ) (blocks area list : List ℕ) (here : j ≡ place blo
       totals-more n rs r now most one gained lost longest t
       (e ∙ ap₂ (λ (u v : ℕ). lost + sumTo n (λ k. stretches (newOf J u v (family rs n) k) n)) (sym ep) there)
       (g (peakOfOne n rs) (old-low n rs r) ∙ ap₂ (λ (u v : ℕ). max (peakOfOne n rs) (mostTo n (λ k. stretches (newOf J u v (family rs n) k) n))) (sym ep) there)
+
+  -- a read that is in no card and is put in none moves nothing
+  module _ (size : length blocks ≡ n) (past : n < p) (none : j ≡ 0) where
+    still : (k : ℕ) → k ≤ n → (m : ℕ) → m ≤ n → newOf J p j (family rs n) k m ≡ family rs n k m
+    still k b m h = bypassed J j (family rs n) n k m b h p past none there falls
+
+    still-stretches : (k : ℕ) → 1 ≤ k → k ≤ n → stretches (newOf J p j (family rs n) k) n ≡ stretches (family rs n k) n
+    still-stretches k a b = stretches-same (newOf J p j (family rs n) k) (family rs n k) n (still k b)
+
+    pub held-still : Held n (rs ++ (r ∷ [])) blocks area
+    held-still =
+        held-more blocks area (read-past blocks key p (sym here ∙ none) (omega arith))
+        (λ k a b. subst (λ (list : List ℕ). Row area ((k - 1) * rowLength n) (rowLength n) list) (sym (pairs-same (newOf J p j (family rs n) k) (family rs n k) n (still k b))) (family-rows n rs r blocks area held k a b))
+
+    pub totals-still : (now most one : ℕ) → Totals n rs now most one → Totals n (rs ++ (r ∷ [])) now most one
+    totals-still now most one t =
+        let more = sums-more now most one 0 0 0 t
+        (omega (arith, sum-same (λ k. stretches (newOf J p j (family rs n) k) n) (λ k. stretches (family rs n k) n) n still-stretches))
+        (λ B h. omega (arith, most-under (λ k. stretches (newOf J p j (family rs n) k) n) n B (λ k a b. omega (arith, still-stretches k a b, h k a b)))) .1 in
+        record {
+          now-is = omega (arith, more .now-is);
+          most-is = omega (arith, more .most-is, t .now-is, t .most-is, total-peak n rs);
+          one-is = omega (arith, more .one-is);
+        }

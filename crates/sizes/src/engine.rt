@@ -6,7 +6,10 @@ use crate::rows::load;
 use crate::sweeps::renew_all;
 use crate::tallies::tally;
 use card::places::at_least_one;
+use card::places::move_from;
+use card::places::place_of;
 ghost use mathlib.Core.Path.{_≡_};
+ghost use mathlib.Core.Bool.{true, false};
 ghost use mathlib.Core.List.{List, [], _∷_, _++_};
 ghost use Prim.Native.Nat.{ℕ, _+_, _-_, _^_, _<_, _≤_, max};
 ghost use lib.ListN.{length, getD};
@@ -37,6 +40,16 @@ fn summed(sums: Sums, changes: Changes) -> Sums
     Sums { now, most, one }
 }
 
+// A block that is in no card and is put in none.
+fn is_bypass(n: usize, p: usize, j: usize) -> bool
+    ensures { λ r. ⌜ (r ≡ true → (j ≡ 0) × (n < p)) × (r ≡ false → j ≡ 0 → p ≤ n) ⌝ }
+{
+    if 0 < j {
+        return false;
+    }
+    n < p
+}
+
 // The areas and the sums after one read. What the scratch holds does not matter, neither before nor after.
 pub fn read(
     blocks: &mut [u64],
@@ -60,10 +73,15 @@ pub fn read(
     ensures small { λ s. ⌜ ((x : ℕ) → getD (now (counts .exit)) x 0 ≤ getD (now (counts .entry)) x 0 + 1) ⌝ }
 {
     let p = at_least_one(priority);
-    let was = card::places::read(blocks, key, priority);
+    let j = place_of(blocks, key);
     let mut list = [0u16; LIST_ROOM];
-    load(stretches, n, was.place, &mut list);
+    load(stretches, n, j, &mut list);
     tally(counts, &list, n, p);
-    let changes = renew_all(stretches, &list, scratch, n, p, was.place);
+    // A read that is in no card and is put in none moves nothing.
+    if is_bypass(n, p, j) {
+        return sums;
+    }
+    move_from(blocks, key, j, priority);
+    let changes = renew_all(stretches, &list, scratch, n, p, j);
     summed(sums, changes)
 }

@@ -9,7 +9,6 @@ use crate::renewals::up_row;
 use crate::rows::Changes;
 use crate::rows::row_length;
 ghost use mathlib.Core.Path.{_≡_};
-ghost use mathlib.Core.Bool.{true, false};
 ghost use mathlib.Core.Logic.{_⊎_};
 ghost use Prim.Native.Nat.{ℕ, _+_, _-_, _*_, _^_, _<_, _≤_, min, max};
 ghost use lib.ListN.{length};
@@ -229,17 +228,7 @@ fn priority_of(p: usize, n: usize) -> u16
     p as u16
 }
 
-// A block that is in no card and is put in none.
-fn is_bypass(n: usize, p: usize, j: usize) -> bool
-    ensures { λ r. ⌜ (r ≡ true → (j ≡ 0) × (n < p)) × (r ≡ false → j ≡ 0 → p ≤ n) ⌝ }
-{
-    if 0 < j {
-        return false;
-    }
-    n < p
-}
-
-// All rows after a read at p of the block whose list is given, and which stood at place j of the largest card.
+// All rows after a read at p of the block whose list is given, and which stood at place j of the largest card, or is put in there.
 pub fn renew_all(
     stretches: &mut [u16],
     list: &[u16],
@@ -248,19 +237,12 @@ pub fn renew_all(
     p: usize,
     j: usize,
 ) -> Changes
-    requires { ⌜ (1 ≤ n) × (n ≤ size .largest) × (1 ≤ p) × (j ≤ n) × (rowLength n + 2 ≤ length (now list)) × (n * rowLength n ≤ length (now stretches)) × (rowLength n < length (now scratch)) ⌝ }
+    requires { ⌜ (1 ≤ n) × (n ≤ size .largest) × (1 ≤ p) × (j ≤ n) × (j ≡ 0 → p ≤ n) × (rowLength n + 2 ≤ length (now list)) × (n * rowLength n ≤ length (now stretches)) × (rowLength n < length (now scratch)) ⌝ }
     ensures rows { λ r. ⌜ ((J : ℕ → ℕ) (L : ℕ → ℕ → ℕ) → Found (now (list .entry)) (now (stretches .entry)) n j J L → RowsOf (now (stretches .exit)) (rowLength n) n (newOf J p j L)) ⌝ }
     ensures changes { λ r. ⌜ ((J : ℕ → ℕ) (L : ℕ → ℕ → ℕ) → Found (now (list .entry)) (now (stretches .entry)) n j J L → r .gained + sumTo n (λ k. card.stretches (L k) n) ≡ r .lost + sumTo n (λ k. card.stretches (newOf J p j L k) n)) ⌝ }
     ensures longest { λ r. ⌜ ((J : ℕ → ℕ) (L : ℕ → ℕ → ℕ) → Found (now (list .entry)) (now (stretches .entry)) n j J L → (B : ℕ) → ((k : ℕ) → 1 ≤ k → k ≤ n → card.stretches (L k) n ≤ B) → max B (r .longest) ≡ max B (mostTo n (λ k. card.stretches (newOf J p j L k) n))) ⌝ }
     ensures small { λ r. ⌜ r .gained < 2 ^ 36 ⌝ }
 {
-    if is_bypass(n, p, j) {
-        return Changes {
-            gained: 0,
-            lost: 0,
-            longest: 0,
-        };
-    }
     let width = row_length(n);
     let last = n as u16;
     let priority = priority_of(p, n);

@@ -1,15 +1,11 @@
--- `card::places::read` meets its contract: the place, the outcome and the shift, one after the other. Assumes nothing.
-use native.Mathlib.Omega.{arith}
+-- `card::places::read` meets its contract: the place, the outcome and the move, one after the other. Assumes nothing.
 use borrow.Author.Needs.{needs}
-use Rattle.card.proofs.OutcomeCases.{place-in, read-is}
+use Rattle.card.proofs.OutcomeCases.{read-is}
 use Rattle.card.proofs.places.read.Statement.{statement}
 use Rattle.card.proofs.places.read.Tie as tie
 
-shift-requires : tie.Need-shift-requires
-shift-requires c κs = (c .before .outcome-of .ensures, omega arith, rw (c .before .before .place-of .ensures) (place-in (c .before .before .before .before .before .before .args .card .now) (c .before .before .before .before .before .before .args .key)))
-
 returns : tie.Need-returns
-returns c = read-is (c .before .before .before .before .before .before .before .before .before .args .card .now) _ (c .before .before .before .before .before .before .before .before .before .args .key) _ _ _ _ (c .before .before .before .before .before .before .before .at-least-one .ensures) (c .before .before .before .before .before .place-of .ensures) (c .before .before .before .before .outcome-of .ensures) (c .before .before .shift .ensures)
+returns c = read-is (c .before .before .before .before .before .before .before .before .before .args .card .now) _ (c .before .before .before .before .before .before .before .before .before .args .key) _ _ _ _ (c .before .before .before .before .before .before .before .at-least-one .ensures) (c .before .before .before .before .before .place-of .ensures) (c .before .before .before .before .outcome-of .ensures) (c .before .before .move-from .ensures)
 
 pub read-spec : {M : Type 1} → statement M
 read-spec =
@@ -18,6 +14,6 @@ read-spec =
     (λ c κs. search needs)
     (λ c κs. search needs)
     (λ c κs. search needs)
-    shift-requires
+    (λ c κs. search needs)
     (λ c. search needs)
     returns)

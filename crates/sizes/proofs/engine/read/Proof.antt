@@ -2,10 +2,10 @@
 use mathlib.Core.Path.{sym, ap, _∙_}
 use native.Mathlib.Omega.{arith}
 use borrow.Author.Needs.{needs}
-use Rattle.card.specs.Rule.{afterRead}
-use Rattle.card.proofs.OutcomeCases.{place-in}
+use Rattle.card.specs.Rule.{movedFrom}
+use Rattle.card.proofs.OutcomeCases.{place-in, moved-read}
 use Rattle.sizes.proofs.NewTotals.{total-low}
-use Rattle.sizes.proofs.ReadLaws.{some-read, found, held-more, tallies-more, sums-more}
+use Rattle.sizes.proofs.ReadLaws.{some-read, found, held-more, held-still, tallies-more, sums-more, totals-still}
 use Rattle.sizes.proofs.Widths.{listRoom, list-room, rows-fill}
 use Rattle.sizes.proofs.PassStart.{zeros-at}
 use Rattle.sizes.proofs.engine.read.Statement.{statement}
@@ -13,49 +13,74 @@ use Rattle.sizes.proofs.engine.read.Tie as tie
 
 load-requires : tie.Need-load-requires
 load-requires c κs =
-    let start = c .before .before .before .before .before .before .before .before .before .before .before in
-    (omega (arith, c .before .before .before .before .read .ensures .0, place-in (start .args .blocks .now) (start .args .key)), omega (arith, rows-fill (start .args .n), start .pre .3), list-room (start .args .n) (start .pre .1), λ x. zeros-at listRoom x)
+    let start = c .before .before .before .before .before .before .before .before .before in
+    (omega (arith, c .before .before .place-of .ensures, place-in (start .args .blocks .now) (start .args .key)), omega (arith, rows-fill (start .args .n), start .pre .3), list-room (start .args .n) (start .pre .1), λ x. zeros-at listRoom x)
+
+-- a read that is in no card and is put in none
+returns : tie.Need-returns
+returns c =
+    let load = c .before .before .before .before .before .before .before .before in
+    let was = load .before .before .before .place-of in
+    let one = load .before .before .before .before .before .at-least-one .ensures in
+    let start = load .before .before .before .before .before .before .before .before .before .before in
+    let list = load .load .last .1 .1 .1 .0 in
+    let lists = load .load .ensures in
+    let tallied = c .before .before .before .before .tally .ensures in
+    let past = c .before .is-bypass .ensures .0 (c .if1 .taken) in (
+      (λ rs r ek ew held. held-still _ _ _ _ _ _ list (was .ensures) lists rs r ek (ew ∙ sym one) held (start .pre .2) (past .1) (past .0)),
+      (
+        (λ rs r ek ew held t. tallies-more _ _ _ _ _ _ list (was .ensures) lists rs r ek (ew ∙ sym one) held _ _ (tallied .0) t),
+        (
+          (λ rs r ek ew held t. totals-still _ _ _ _ _ _ list (was .ensures) lists rs r ek (ew ∙ sym one) held (start .pre .2) (past .1) (past .0) _ _ _ t),
+          tallied .1 .0,
+        ),
+      ),
+    )
 
 renew-all-requires : tie.Need-renew-all-requires
 renew-all-requires c κs =
-    let start = c .before .before .before .before .before .before .before .before .before .before .before .before .before .before .before .before .before .before .before .before .before in
-    (start .pre .0, start .pre .1, omega (arith, c .before .before .before .before .before .before .before .before .before .before .before .before .before .before .before .before .at-least-one .ensures), omega (arith, c .before .before .before .before .before .before .before .before .before .before .before .before .before .before .read .ensures .0, place-in (start .args .blocks .now) (start .args .key)), omega (arith, list-room (start .args .n) (start .pre .1)), omega (arith, rows-fill (start .args .n), start .pre .3), start .pre .5)
+    let start = c .before .before .before .before .before .before .before .before .before .before .before .before .before .before .before .before .before .before .before .before .before .before .before .before .before in
+    let one = c .before .before .before .before .before .before .before .before .before .before .before .before .before .before .before .before .before .before .before .before .at-least-one .ensures in
+    let here = c .before .before .before .before .before .before .before .before .before .before .before .before .before .before .before .before .before .before .place-of .ensures in
+    let moves = c .before .before .before .before .before .before .before .before .is-bypass .ensures .1 (c .before .before .before .before .before .before .before .if1 .left) in
+    (start .pre .0, start .pre .1, omega (arith, one), omega (arith, here, place-in (start .args .blocks .now) (start .args .key)), moves, omega (arith, list-room (start .args .n) (start .pre .1)), omega (arith, rows-fill (start .args .n), start .pre .3), start .pre .5)
 
 summed-requires : tie.Need-summed-requires
 summed-requires c κs =
-    let start = c .before .before .before .before .before .before .before .before .before .before .before .before .before .before .before .before .before .before .before .before .before .before .before .before .before .before in
-    let a = start .args in
-    let one = c .before .before .before .before .before .before .before .before .before .before .before .before .before .before .before .before .before .before .before .before .before .at-least-one .ensures in
-    let here = c .before .before .before .before .before .before .before .before .before .before .before .before .before .before .before .before .before .before .before .read .ensures .0 in
-    let list = c .before .before .before .before .before .before .before .before .before .before .before .before .before .before .load .last .1 .1 .1 .0 in
-    let lists = c .before .before .before .before .before .before .before .before .before .before .before .before .before .before .load .ensures in
+    let load = c .before .before .before .before .before .before .before .before .before .before .before .before .before .before .before .before .before .before .before .before in
+    let was = load .before .before .before .place-of in
+    let one = load .before .before .before .before .before .at-least-one .ensures in
+    let start = load .before .before .before .before .before .before .before .before .before .before in
+    let list = load .load .last .1 .1 .1 .0 in
+    let lists = load .load .ensures in
     let renewed = c .before .before .before .before .renew-all in
     let (rs, held, sums) = start .pre .8 in
-    let (r, ek, ew) = some-read (a .key) (a .priority) (start .pre .6) in
-    let f = found _ _ _ _ _ _ list here lists rs r ek (ew ∙ sym one) held in
-    let more = sums-more _ _ _ _ _ _ list here lists rs r ek (ew ∙ sym one) held _ _ _ _ _ _ sums (renewed .ensures .1 .0 _ _ f) (renewed .ensures .1 .1 .0 _ _ f) in
-    (more .0, omega (arith, renewed .ensures .1 .1 .1, rows-fill (a .n), start .pre .3, sums .now-is, total-low (a .n) rs))
+    let (r, ek, ew) = some-read (start .args .key) (start .args .priority) (start .pre .6) in
+    let f = found _ _ _ _ _ _ list (was .ensures) lists rs r ek (ew ∙ sym one) held in
+    let more = sums-more _ _ _ _ _ _ list (was .ensures) lists rs r ek (ew ∙ sym one) held _ _ _ _ _ _ sums (renewed .ensures .1 .0 _ _ f) (renewed .ensures .1 .1 .0 _ _ f) in
+    (more .0, omega (arith, renewed .ensures .1 .1 .1, rows-fill (start .args .n), start .pre .3, sums .now-is, total-low (start .args .n) rs))
 
-returns : tie.Need-returns
-returns c =
-    let start = c .before .before .before .before .before .before .before .before .before .before .before .before .before .before .before .before .before .before .before .before .before .before .before .before .before .before .before in
-    let a = start .args in
-    let one = c .before .before .before .before .before .before .before .before .before .before .before .before .before .before .before .before .before .before .before .before .before .before .at-least-one .ensures in
-    let was = c .before .before .before .before .before .before .before .before .before .before .before .before .before .before .before .before .before .before .before .before .read .ensures in
-    let list = c .before .before .before .before .before .before .before .before .before .before .before .before .before .before .before .load .last .1 .1 .1 .0 in
-    let lists = c .before .before .before .before .before .before .before .before .before .before .before .before .before .before .before .load .ensures in
-    let tallied = c .before .before .before .before .before .before .before .before .before .before .before .tally .ensures in
+returns-2 : tie.Need-returns-2
+returns-2 c =
+    let load = c .before .before .before .before .before .before .before .before .before .before .before .before .before .before .before .before .before .before .before .before .before in
+    let was = load .before .before .before .place-of in
+    let one = load .before .before .before .before .before .at-least-one .ensures in
+    let start = load .before .before .before .before .before .before .before .before .before .before in
+    let list = load .load .last .1 .1 .1 .0 in
+    let lists = load .load .ensures in
+    let tallied = c .before .before .before .before .before .before .before .before .before .before .before .before .before .before .before .before .before .tally .ensures in
+    let moved = c .before .before .before .before .before .before .before .before .before .before .before .move-from .ensures in
     let renewed = c .before .before .before .before .before .renew-all .ensures in (
       (λ rs r ek ew held.
-          held-more _ _ _ _ _ _ list (was .0) lists rs r ek (ew ∙ sym one) held _ _
-          (was .2 ∙ ap (afterRead (a .blocks .now) (a .key)) (sym one))
-          (renewed .0 _ _ (found _ _ _ _ _ _ list (was .0) lists rs r ek (ew ∙ sym one) held))),
+          held-more _ _ _ _ _ _ list (was .ensures) lists rs r ek (ew ∙ sym one) held _ _
+          (moved ∙ ap (movedFrom (start .args .blocks .now) (start .args .key) (was .result)) (sym one) ∙ moved-read (start .args .blocks .now) (start .args .key) (was .result) _ (was .ensures))
+          (renewed .0 _ _ (found _ _ _ _ _ _ list (was .ensures) lists rs r ek (ew ∙ sym one) held))),
       (
-        (λ rs r ek ew held t. tallies-more _ _ _ _ _ _ list (was .0) lists rs r ek (ew ∙ sym one) held _ _ (tallied .0) t),
+        (λ rs r ek ew held t. tallies-more _ _ _ _ _ _ list (was .ensures) lists rs r ek (ew ∙ sym one) held _ _ (tallied .0) t),
         (
           (λ rs r ek ew held t.
-              let f = found _ _ _ _ _ _ list (was .0) lists rs r ek (ew ∙ sym one) held in
-              let more = sums-more _ _ _ _ _ _ list (was .0) lists rs r ek (ew ∙ sym one) held _ _ _ _ _ _ t (renewed .1 .0 _ _ f) (renewed .1 .1 .0 _ _ f) .1 in
+              let f = found _ _ _ _ _ _ list (was .ensures) lists rs r ek (ew ∙ sym one) held in
+              let more = sums-more _ _ _ _ _ _ list (was .ensures) lists rs r ek (ew ∙ sym one) held _ _ _ _ _ _ t (renewed .1 .0 _ _ f) (renewed .1 .1 .0 _ _ f) .1 in
               record { now-is = c .summed .ensures .0 ∙ more .now-is; most-is = c .summed .ensures .1 ∙ more .most-is; one-is = c .summed .ensures .2 ∙ more .one-is }),
           tallied .1 .0,
         ),
@@ -72,6 +97,12 @@ read-spec =
     load-requires
     (λ c. search needs)
     (λ c κs. search needs)
+    (λ c κs. search needs)
+    (λ c. search needs)
+    (λ c. search needs)
+    (λ c. search needs)
+    returns
+    (λ c κs. search needs)
     (λ c. search needs)
     renew-all-requires
     summed-requires
@@ -79,4 +110,4 @@ read-spec =
     (λ c. search needs)
     (λ c. search needs)
     (λ c. search needs)
-    returns)
+    returns-2)

@@ -1,7 +1,7 @@
--- The rows are renewed at the priority in reach, which does the same up to the largest size; a read that passes by leaves them.
+-- The rows are renewed at the priority in reach, which does the same up to the largest size.
 use borrow.Author.Needs.{needs}
 use native.Mathlib.Omega.{arith}
-use mathlib.Core.Path.{_≡_, refl, sym, ap, _∙_}
+use mathlib.Core.Path.{_≡_, refl, ap, _∙_}
 use mathlib.Core.List.{List}
 use Prim.Native.Nat.{ℕ, _+_, _-_, _*_, _≤_, max}
 use lib.ListN.{length, getD}
@@ -13,51 +13,33 @@ use Rattle.sizes.proofs.PairLists.{pairs-same, stretches-same}
 use Rattle.sizes.proofs.Widths.{list-room}
 use Rattle.sizes.proofs.RowLaws.{base-le}
 use Rattle.sizes.proofs.RowCounts.{stretches-none}
-use Rattle.sizes.proofs.Exchanges.{sum-same, most-same, most-under, exchange}
-use Rattle.sizes.proofs.Clamps.{clamped, bypassed}
+use Rattle.sizes.proofs.Exchanges.{sum-same, most-same, exchange}
+use Rattle.sizes.proofs.Clamps.{clamped}
 use Rattle.sizes.proofs.Turns.{found-finds}
 use Rattle.sizes.proofs.sweeps.renew_all.Statement.{statement}
 use Rattle.sizes.proofs.sweeps.renew_all.Tie as tie
 
-returns : tie.Need-returns
-returns c =
-    let at = c .before .before .before .before .before .args in
-    let pass = c .before .is-bypass .ensures .0 (c .if1 .taken) in
-    let n = at .n in
-    let same : (J : ℕ → ℕ) (L : ℕ → ℕ → ℕ) → Found (at .list .now) (at .stretches .now) n (at .j) J L → (k : ℕ) → k ≤ n → (m : ℕ) → m ≤ n → newOf J (at .p) (at .j) L k m ≡ L k m = λ J L f k b m hm. bypassed J (at .j) L n k m b hm (at .p) (pass .1) (pass .0) (f .there) (f .falling) in
-    let counts : (J : ℕ → ℕ) (L : ℕ → ℕ → ℕ) → Found (at .list .now) (at .stretches .now) n (at .j) J L → (k : ℕ) → 1 ≤ k → k ≤ n → stretches (newOf J (at .p) (at .j) L k) n ≡ stretches (L k) n = λ J L f k a b. stretches-same (newOf J (at .p) (at .j) L k) (L k) n (same J L f k b) in (
-      (λ J L f k a b q h. f .rows k a b q h ∙ ap (λ (l : List ℕ). getD l q 0) (sym (pairs-same (newOf J (at .p) (at .j) L k) (L k) n (same J L f k b)))),
-      (
-        (λ J L f. omega (arith, sum-same (λ k. stretches (newOf J (at .p) (at .j) L k) n) (λ k. stretches (L k) n) n (counts J L f))),
-        (
-          (λ J L f B h. omega (arith, most-under (λ k. stretches (newOf J (at .p) (at .j) L k) n) n B (λ k a b. omega (arith, counts J L f k a b, h k a b)))),
-          omega arith,
-        ),
-      ),
-    )
-
 leaving-requires : tie.Need-leaving-requires
 leaving-requires c κs =
-    let at = c .before .before .before .before .before .before .before .before .args in
-    let pre = c .before .before .before .before .before .before .before .before .pre in
+    let at = c .before .before .before .before .before .before .args in
+    let pre = c .before .before .before .before .before .before .pre in
     let w = c .before .before .row-length .result in
     let ew = c .before .before .row-length .ensures in
-    let room : at .n * w ≤ length (at .stretches .now) = rw ew (pre .5) in
+    let room : at .n * w ≤ length (at .stretches .now) = rw ew (pre .6) in
     (omega arith, ew, omega (arith, base-le (at .n - 1) (at .n) w (omega arith), room), omega arith)
 
 renew-rows-requires : tie.Need-renew-rows-requires
 renew-rows-requires c κs =
-    let at = c .before .before .before .before .before .before .before .before .before .before .before .args in
-    let pre = c .before .before .before .before .before .before .before .before .before .before .before .pre in
+    let at = c .before .before .before .before .before .before .before .before .before .args in
+    let pre = c .before .before .before .before .before .before .before .before .before .pre in
     let ew = c .before .before .before .before .before .row-length .ensures in
     let low = list-room (at .n) (pre .1) in
     let reach = c .before .before .before .before .priority-of .ensures in
-    let passes = c .before .before .before .before .before .before .before .is-bypass .ensures .1 (c .before .before .before .before .before .before .if1 .left) in
-    ((record { read-at = omega arith; some = omega arith; narrow = omega arith; wide = ew; room = rw ew (pre .5) }, omega arith, omega arith, (omega arith, omega (arith, c .before .before .leaving .ensures .0))), (refl, omega (arith, c .before .before .leaving .ensures .0), refl), omega arith, λ z. omega (arith, passes z))
+    ((record { read-at = omega arith; some = omega arith; narrow = omega arith; wide = ew; room = rw ew (pre .6) }, omega arith, omega arith, (omega arith, omega (arith, c .before .before .leaving .ensures .0))), (refl, omega (arith, c .before .before .leaving .ensures .0), refl), omega arith, λ z. omega (arith, pre .4 z))
 
-returns-2 : tie.Need-returns-2
-returns-2 c =
-    let at = c .before .before .before .before .before .before .before .before .before .before .before .before .before .before .before .before .args in
+returns : tie.Need-returns
+returns c =
+    let at = c .before .before .before .before .before .before .before .before .before .before .before .before .before .before .args in
     let n = at .n in
     let w = c .before .before .before .before .before .before .before .before .before .before .row-length .result in
     let ew = c .before .before .before .before .before .before .before .before .before .before .row-length .ensures in
@@ -90,13 +72,11 @@ renew-all-spec =
     tie.close
     (tie.spec
     (λ c κs. search needs)
-    returns
-    (λ c κs. search needs)
-    (λ c. omega (arith, list-room (c .before .before .before .before .before .before .args .n) (c .before .before .before .before .before .before .pre .1)))
-    (λ c κs. omega (arith, list-room (c .before .before .before .before .before .before .args .n) (c .before .before .before .before .before .before .pre .1)))
-    (λ c. omega (arith, list-room (c .before .before .before .before .before .before .before .args .n) (c .before .before .before .before .before .before .before .pre .1)))
+    (λ c. omega (arith, list-room (c .before .before .before .before .args .n) (c .before .before .before .before .pre .1)))
+    (λ c κs. omega (arith, list-room (c .before .before .before .before .args .n) (c .before .before .before .before .pre .1)))
+    (λ c. omega (arith, list-room (c .before .before .before .before .before .args .n) (c .before .before .before .before .before .pre .1)))
     leaving-requires
     renew-rows-requires
     (λ c. search needs)
     (λ c. search needs)
-    returns-2)
+    returns)

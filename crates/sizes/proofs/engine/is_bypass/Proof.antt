@@ -2,8 +2,8 @@
 use native.Mathlib.Omega.{arith}
 use mathlib.Core.Bool.{false≢true}
 use borrow.Author.Tests.{ltb-true, ltb-false}
-use Rattle.sizes.proofs.sweeps.is_bypass.Statement.{statement}
-use Rattle.sizes.proofs.sweeps.is_bypass.Tie as tie
+use Rattle.sizes.proofs.engine.is_bypass.Statement.{statement}
+use Rattle.sizes.proofs.engine.is_bypass.Tie as tie
 
 returns : tie.Need-returns
 returns c = ((λ e. absurd (false≢true e)), λ e z. absurd (omega arith))
