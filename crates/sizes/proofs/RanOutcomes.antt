@@ -25,6 +25,7 @@ use Rattle.sizes.specs.Outcome as outcome
 use Rattle.sizes.specs.Outcome.{Areas, Outcome, stretchesLength, countsLength, isRoom, countsOf, fronted, zeros, untouched, emptied, recorded, headed, runOf}
 use Rattle.sizes.specs.Passing.{answered, counted}
 use Rattle.sizes.specs.Answers.{areasOf}
+use Rattle.sizes.proofs.PassClears.{fronted-is}
 
 -- ---- the areas
 
@@ -41,10 +42,6 @@ counted-length n (Refused number place) = length-replicate {A = ℕ} (countsLeng
 recorded-is : (n : ℕ) (areas : Areas) (x : Reading (List Read)) → recorded n areas x ≡ emptied n (answered n x) (counted n x) areas
 recorded-is n areas (Given rs at) = refl
 recorded-is n areas (Refused number place) = refl
-
--- a part at the front that has come back
-fronted-is : (front last area : List ℕ) (k : ℕ) → last ≡ front → length front ≡ k → last ++ drop k area ≡ fronted front area
-fronted-is front last area k e l = ap (λ (x : List ℕ). x ++ drop k area) e ∙ ap (λ (i : ℕ). front ++ drop i area) (sym l)
 
 -- what the pass leaves in the fronts of the areas is the outcome
 module _ (blocks stretches counts : List ℕ) (n : ℕ) (x : Reading (List Read)) (o : Outcome) where

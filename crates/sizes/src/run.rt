@@ -19,7 +19,7 @@ ghost use Rattle.terms.specs.Ranges.{size};
 ghost use Rattle.terms.specs.Reads.{Read};
 ghost use Rattle.trace.specs.Reading.{Reading};
 ghost use Rattle.trace.specs.Trace.{readsFrom};
-ghost use Rattle.sizes.specs.Outcome.{blocksLength, stretchesLength, countsLength, zeros, runOf};
+ghost use Rattle.sizes.specs.Outcome.{blocksLength, stretchesLength, countsLength, zeros, fronted, runOf};
 ghost use Rattle.sizes.specs.Passing.{answered, counted, TalliedBy};
 ghost use Rattle.sizes.specs.Answers.{ranAnswer, areasOf, AreasAre};
 
@@ -50,6 +50,14 @@ fn clear_pairs(area: &mut [u16])
         area[i] = 0;
         i += 1;
     }
+}
+
+// The tallies of sizes 1 to n become zeros.
+fn clear_counts(counts: &mut [u64], n: usize)
+    requires { ⌜ countsLength n ≤ length (now counts) ⌝ }
+    ensures { λ _. ⌜ now (counts .exit) ≡ fronted (zeros (countsLength n)) (now (counts .entry)) ⌝ }
+{
+    clear_numbers(&mut counts[..6 * n]);
 }
 
 // The records from a place to the end, each read at all sizes, from areas that no read has touched.
@@ -112,7 +120,7 @@ fn settle(counts: &mut [u64], n: usize, ran: Ran)
             total: _,
             one: _,
         } => finish(counts, n, reads),
-        Ran::Refused(_, _) => clear_numbers(counts),
+        Ran::Refused(_, _) => clear_counts(counts, n),
     }
 }
 
@@ -133,7 +141,7 @@ fn pass(
 {
     clear_numbers(blocks);
     clear_pairs(stretches);
-    clear_numbers(counts);
+    clear_counts(counts, n);
     let ran = records(trace, start, blocks, stretches, counts, n);
     clear_numbers(blocks);
     clear_pairs(stretches);

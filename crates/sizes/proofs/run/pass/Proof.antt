@@ -5,6 +5,7 @@ use borrow.Author.Needs.{needs}
 use lib.ListN.{length}
 use Rattle.trace.specs.Trace.{readsFrom}
 use Rattle.sizes.specs.Outcome.{zeros, stretchesLength}
+use Rattle.sizes.proofs.PassClears.{cleared-whole}
 use Rattle.sizes.proofs.run.pass.Statement.{statement}
 use Rattle.sizes.proofs.run.pass.Tie as tie
 
@@ -16,7 +17,7 @@ records-requires c κs =
       start .pre .2,
       c .before .before .before .before .before .before .before .before .before .before .before .before .before .clear-numbers .ensures ∙ ap zeros (start .pre .3),
       c .before .before .before .before .before .before .before .before .before .clear-pairs .ensures ∙ ap zeros (start .pre .4),
-      c .before .before .before .before .before .clear-numbers2 .ensures ∙ ap zeros (start .pre .5),
+      cleared-whole (start .args .counts .now) _ _ (start .pre .5) (c .before .before .before .before .before .clear-counts .ensures),
     )
 
 settle-requires : tie.Need-settle-requires
@@ -36,7 +37,7 @@ returns c =
     let blocks : length (left .0) ≡ start .args .n = c .before .before .before .before .before .before .before .before .before .before .before .before .before .before .before .before .before .blocks3 .given ∙ after .before .before .before .before .before .before .before .before .before .before .before .before .before .blocks2 .given ∙ start .pre .3 in
     let stretches : length (left .1 .0) ≡ stretchesLength (start .args .n) = c .before .before .before .before .before .before .before .before .before .before .before .before .before .before .before .stretches2 .given ∙ after .before .before .before .before .before .before .before .before .before .stretches .given ∙ start .pre .4 in (
       said .0,
-      c .before .before .before .before .before .before .before .before .before .before .clear-numbers3 .ensures ∙ ap zeros blocks,
+      c .before .before .before .before .before .before .before .before .before .before .clear-numbers2 .ensures ∙ ap zeros blocks,
       c .before .before .before .before .before .before .clear-pairs2 .ensures ∙ ap zeros stretches,
       c .before .before .settle .ensures (readsFrom (length s) s (start .args .start)) (said .0) (said .1),
     )
@@ -47,7 +48,7 @@ pass-spec =
     (tie.spec
     (λ c κs. search needs)
     (λ c κs. search needs)
-    (λ c κs. search needs)
+    (λ c κs. omega arith)
     records-requires
     (λ c κs. search needs)
     (λ c κs. search needs)

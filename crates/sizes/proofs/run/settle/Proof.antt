@@ -1,12 +1,12 @@
 -- `sizes::run::settle` meets its contract: each arm is a case of what was read. Assumes nothing.
-use mathlib.Core.Path.{ap, subst, _∙_}
+use mathlib.Core.Path.{subst, _∙_}
 use Prim.Native.Nat.{ℕ}
 use native.Mathlib.Omega.{arith}
 use lib.ListN.{length}
 use borrow.Author.Needs.{needs}
-use Rattle.sizes.specs.Outcome.{zeros}
 use Rattle.sizes.specs.TallySteps.{Summing}
 use Rattle.sizes.proofs.CountLaws.{tallied-summing}
+use Rattle.sizes.proofs.PassClears.{cleared-whole}
 use Rattle.sizes.proofs.PassFinish.{finished-counts}
 use Rattle.sizes.proofs.PassEnds.{done-tallied, done-counted, refused-counted}
 use Rattle.sizes.proofs.run.settle.Statement.{statement}
@@ -18,7 +18,7 @@ finish-requires c κs =
     let x = start .pre .1 in
     let told = done-tallied _ (start .args .counts .now) (x .0) _ (x .1) (x .2) _ _ _ (c .before .before .ran .given .1) in
     let same : (m : ℕ) → Summing (start .args .counts .now) m (length (told .1 .0)) → Summing (start .args .counts .now) m _ = λ m. subst (λ (k : ℕ). Summing (start .args .counts .now) m k) (told .1 .2) in
-    (omega (arith, start .pre .0), told .0, λ m some h. same m (tallied-summing _ (told .1 .0) _ (told .1 .1) m some h))
+    (omega (arith, start .pre .0), told .0, λ m some h. same m (tallied-summing _ (told .1 .0) _ (told .1 .1) m some (omega arith)))
 
 returns : tie.Need-returns
 returns c x e t =
@@ -29,7 +29,7 @@ returns c x e t =
 returns-2 : tie.Need-returns-2
 returns-2 c x e t =
     let start = c .before .before .before .before .before .before .before in
-    c .before .before .clear-numbers .ensures ∙ ap zeros (start .pre .0) ∙ refused-counted _ (start .args .counts .now) x _ e _ _ (c .before .before .before .before .enum-told .given .1)
+    cleared-whole (start .args .counts .now) _ _ (start .pre .0) (c .before .before .clear-counts .ensures) ∙ refused-counted _ (start .args .counts .now) x _ e _ _ (c .before .before .before .before .enum-told .given .1)
 
 pub settle-spec : {M : Type 1} → statement M
 settle-spec =
@@ -38,7 +38,7 @@ settle-spec =
     (λ c. search needs)
     finish-requires
     (λ c. search needs)
-    (λ c κs. search needs)
+    (λ c κs. omega (arith, c .before .before .before .before .pre .0))
     (λ c. search needs)
     returns
     (λ c. search needs)
