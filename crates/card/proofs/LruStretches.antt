@@ -21,10 +21,10 @@ use Rattle.card.proofs.Full.{full}
 use Rattle.card.proofs.Lru.{Plain, front-card}
 
 -- a place, where it is within the first n
-abbrev pub upTo : (n j : ℕ) → ℕ
-upTo n j = cond (leb j n) j 0
+abbrev pub withinFirst : (n j : ℕ) → ℕ
+withinFirst n j = cond (leb j n) j 0
 
-place-take : (n : ℕ) (c : List ℕ) (x : ℕ) → n ≤ length c → place (take n c) x ≡ upTo n (place c x)
+place-take : (n : ℕ) (c : List ℕ) (x : ℕ) → n ≤ length c → place (take n c) x ≡ withinFirst n (place c x)
 place-take n c x h =
     let d = depth-take n c x in
     let l = length-take n c in
@@ -35,7 +35,7 @@ place-take n c x h =
     (λ a. let e = place-absent c x (omega (arith, depth-le c x)) in place-absent (take n c) x (omega (arith, depth-le c x)) ∙ by-lt n (place c x) (λ i. simp tests) (λ i. simp tests (omega arith)))
 
 -- the places of a block, from its place in the largest card
-pub plain-places : (rs : List Read) (N x s : ℕ) → Plain rs → s ≤ N → placesOf rs x s ≡ upTo s (placesOf rs x N)
+pub plain-places : (rs : List Read) (N x s : ℕ) → Plain rs → s ≤ N → placesOf rs x s ≡ withinFirst s (placesOf rs x N)
 plain-places rs N x s p h = ap (λ (c : List ℕ). place c x) (front-card s N rs p h) ∙ place-take s (cardAfter N rs) x (omega (arith, length-card N rs))
 
 stretches-same : (f g : ℕ → ℕ) (N : ℕ) → ((s : ℕ) → s ≤ N → f s ≡ g s) → stretches f N ≡ stretches g N
@@ -44,7 +44,7 @@ stretches-same f g (suc n) h =
     ap₂ _+_ (stretches-same f g n (λ s k. h s (omega arith))) (ap₂ starts (h n (omega arith)) (h (suc n) (omega arith)))
 
 -- a block at one place in all sizes that have it
-stretches-flat : (j n : ℕ) → stretches (λ s. upTo s j) n ≡ cond (leb j n) (here j) 0
+stretches-flat : (j n : ℕ) → stretches (λ s. withinFirst s j) n ≡ cond (leb j n) (here j) 0
 stretches-flat j zero = by-eq j 0 (λ e. let h : j ≤ 0 = omega arith in simp tests) (λ e. let h : 0 < j = omega arith in simp tests)
 stretches-flat j (suc n) =
     by-eq j 0
@@ -61,7 +61,7 @@ plain-one rs N x p =
     let f = place-in (cardAfter N rs) x in
     let l = length-card N rs in
     let h : placesOf rs x N ≤ N = omega arith in
-    stretches-same (placesOf rs x) (λ s. upTo s (placesOf rs x N)) N (λ s k. plain-places rs N x s p k) ∙ stretches-flat (placesOf rs x N) N ∙ simp tests
+    stretches-same (placesOf rs x) (λ s. withinFirst s (placesOf rs x N)) N (λ s k. plain-places rs N x s p k) ∙ stretches-flat (placesOf rs x N) N ∙ simp tests
 
 largest-here : (c : List ℕ) → largestOver here c ≡ here (full c)
 largest-here [] = refl

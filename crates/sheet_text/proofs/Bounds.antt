@@ -59,7 +59,7 @@ module _ (s : List ℕ) (areas : Areas) (reads total one : ℕ) where
         omega (arith, trace-size s (a .trace) (a .end) (a .is-trace), counts-length (a .trace .header .size) rs, ap length (a .counts-are), length-append front (drop (length front) (areas .counts)))
 
     -- a size's own counts, as `cells-sum` finds them
-    cell-here : (m o : ℕ) → cell left m o ≡ ran.cell s areas reads total one a (suc m) o
+    cell-here : (m o : ℕ) → cell left m o ≡ ran.countLeft s areas reads total one a (suc m) o
     cell-here m o = ap (λ (i : ℕ). getD left i 0) (omega arith)
 
     misses-held : (m : ℕ) → m < n → cell left m 4 + cell left m 5 ≤ reads

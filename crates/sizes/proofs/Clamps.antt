@@ -4,13 +4,13 @@ use Prim.Native.Nat.{ℕ, _+_, _≤_, _<_, min}
 use native.Mathlib.Omega.{arith}
 use Rattle.card.proofs.Tests.{by-lt, tests}
 use Rattle.card.specs.Falling.{Falling}
-use Rattle.sizes.specs.Moves.{after, sourceOf, newOf}
+use Rattle.sizes.specs.Moves.{otherAfter, sourceOf, newOf}
 use Rattle.sizes.proofs.PairFacts.{falls}
 
 module _ (J : ℕ → ℕ) (j : ℕ) (L : ℕ → ℕ → ℕ) (n k m : ℕ) (kn : k ≤ n) (mn : m ≤ n) where
   -- nothing is put in
   past-new : (p : ℕ) → n < p → newOf J p j L k m ≡ newOf J (n + 1) j L k m
-  unfolding newOf after sourceOf
+  unfolding newOf otherAfter sourceOf
   past-new p h =
       let a : k ≡ p → ⊥ = λ e. omega arith in
       let b : k ≡ n + 1 → ⊥ = λ e. omega arith in
@@ -27,7 +27,7 @@ module _ (J : ℕ → ℕ) (j : ℕ) (L : ℕ → ℕ → ℕ) (n k m : ℕ) (kn
 
   -- a block that is in no card and is put in none
   pub bypassed : (p : ℕ) → n < p → j ≡ 0 → j ≡ J n → Falling J → newOf J p j L k m ≡ L k m
-  unfolding newOf after sourceOf
+  unfolding newOf otherAfter sourceOf
   bypassed p h none there fall =
       let absent : J m ≡ 0 = by-lt 0 (J m) (λ some. absurd (omega (arith, falls J fall m n mn some .0))) (λ le. omega arith) in
       let a : k ≡ p → ⊥ = λ e. omega arith in

@@ -12,8 +12,8 @@ use Rattle.sizes.specs.Lists.{Holds, Begins}
 use Rattle.sizes.proofs.PairFacts.{entries}
 
 -- as many entries as there are before the first zero
-pub counted : (list : List ℕ) (x : ℕ) (R : ℕ → ℕ) (n : ℕ) → ((k : ℕ) → k < x → 0 < getD list k 0) → (getD list x 0 ≡ 0) ⊎ (length (pairs R n) ≤ x) → Begins list R n → x ≡ length (pairs R n)
-counted list x R n some end begins =
+pub entries-counted : (list : List ℕ) (x : ℕ) (R : ℕ → ℕ) (n : ℕ) → ((k : ℕ) → k < x → 0 < getD list k 0) → (getD list x 0 ≡ 0) ⊎ (length (pairs R n) ≤ x) → Begins list R n → x ≡ length (pairs R n)
+entries-counted list x R n some end begins =
     let hi : length (pairs R n) ≤ x = by-lt x (length (pairs R n))
     (λ lt. ⊎-elim (λ z. absurd (omega (arith, entries R n x lt, begins x (omega arith)))) (λ le. le) end) (λ ge. ge) in
     by-lt (length (pairs R n)) x
@@ -25,7 +25,7 @@ module _ (row out out₀ : List ℕ) (x : ℕ) (fit : x < length out) (some : (k
   pub copied : (v : ℕ) → v ≡ 0 → getD row x 0 ≡ 0
       → ((R : ℕ → ℕ) (n : ℕ) → Holds row R n → (x ≡ length (pairs R n)) × Begins (set out x v) R n) × ((y : ℕ) → x < y → getD (set out x v) y 0 ≡ getD out₀ y 0)
   copied v ev z = (
-    (λ R n holds. let e = counted row x R n some (inl z) (λ q hq. holds q) in (
+    (λ R n holds. let e = entries-counted row x R n some (inl z) (λ q hq. holds q) in (
       e,
       λ q hq. by-eq q x
           (λ g. ap (λ (i : ℕ). getD (set out x v) i 0) g ∙ getD-set-same out x v 0 fit ∙ ev ∙ sym z ∙ sym (ap (λ (i : ℕ). getD row i 0) g) ∙ holds q)

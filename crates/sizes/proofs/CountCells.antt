@@ -5,7 +5,7 @@ use Prim.Native.Nat.{ℕ, _+_, _-_, _≤_, _<_}
 use native.Mathlib.Omega.{arith}
 use lib.ListN.{length, getD, set, length-set}
 use lib.Seq.{getD-set-same, getD-set-other}
-use Rattle.sizes.specs.TallySteps.{Ordered, Written}
+use Rattle.sizes.specs.TallySteps.{Ordered, CountsWritten}
 
 module _ (l₀ : List ℕ) (at v₀ v₁ v₂ v₃ v₄ v₅ : ℕ) where
   abbrev l₁ : List ℕ
@@ -79,7 +79,7 @@ module _ (l : List ℕ) (at s₀ s₁ s₂ s₃ s₄ s₅ reads : ℕ) where
   abbrev stored : List ℕ
   stored = l₆ l at (s₀ + s₅ - s₁) (s₁ - s₂) s₂ (s₃ - s₅) (s₄ - s₀) (reads - s₄ - s₃)
 
-  pub written : at + 6 ≤ length l → Ordered s₀ s₁ s₂ s₃ s₄ s₅ reads → Written l stored at s₀ s₁ s₂ s₃ s₄ s₅ reads
+  pub written : at + 6 ≤ length l → Ordered s₀ s₁ s₂ s₃ s₄ s₅ reads → CountsWritten l stored at s₀ s₁ s₂ s₃ s₄ s₅ reads
   written room ordered = record {
     ups = omega (arith, cell₀ l at (s₀ + s₅ - s₁) (s₁ - s₂) s₂ (s₃ - s₅) (s₄ - s₀) (reads - s₄ - s₃) room);
     sames = omega (arith, cell₁ l at (s₀ + s₅ - s₁) (s₁ - s₂) s₂ (s₃ - s₅) (s₄ - s₀) (reads - s₄ - s₃) room);

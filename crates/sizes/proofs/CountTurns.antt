@@ -8,7 +8,7 @@ use native.Mathlib.Numerals.{add-one}
 use lib.ListN.{getD}
 use Rattle.card.proofs.Tests.{by-eq}
 use Rattle.sizes.specs.Tallies.{upTo}
-use Rattle.sizes.specs.TallySteps.{Summing, Finished, More, Small, Ordered, Written}
+use Rattle.sizes.specs.TallySteps.{Summing, Finished, More, SmallSums, Ordered, CountsWritten}
 
 -- six numbers are the sums of a size
 pub record SumsAre (c : List ℕ) (m s₀ s₁ s₂ s₃ s₄ s₅ : ℕ) : Type 0 where
@@ -23,12 +23,12 @@ ordered : (c : List ℕ) (m reads : ℕ) → Summing c m reads → Ordered (upTo
 ordered c m reads summing = let sums = summing .6 in omega arith
 
 -- so far: the numbers are the sums of size m, the counts up to there are written, and the rest is as it was
-pub record Halfway (c₀ c : List ℕ) (m reads s₀ s₁ s₂ s₃ s₄ s₅ : ℕ) : Type 0 where
+pub record SizesCounted (c₀ c : List ℕ) (m reads s₀ s₁ s₂ s₃ s₄ s₅ : ℕ) : Type 0 where
   pub sums : SumsAre c₀ m s₀ s₁ s₂ s₃ s₄ s₅
   pub rest : (x : ℕ) → 6 * m ≤ x → getD c x 0 ≡ getD c₀ x 0
   pub finished : Finished c₀ c m reads
 
-module _ {c₀ c : List ℕ} {m reads s₀ s₁ s₂ s₃ s₄ s₅ : ℕ} (sofar : Halfway c₀ c m reads s₀ s₁ s₂ s₃ s₄ s₅) where
+module _ {c₀ c : List ℕ} {m reads s₀ s₁ s₂ s₃ s₄ s₅ : ℕ} (sofar : SizesCounted c₀ c m reads s₀ s₁ s₂ s₃ s₄ s₅) where
   -- the six numbers with the next size's tallies
   next-sums : SumsAre c₀ (suc m) (s₀ + getD c (6 * m) 0) (s₁ + getD c (6 * m + 1) 0) (s₂ + getD c (6 * m + 2) 0) (s₃ + getD c (6 * m + 3) 0) (s₄ + getD c (6 * m + 4) 0) (s₅ + getD c (6 * m + 5) 0)
   next-sums =
@@ -37,7 +37,7 @@ module _ {c₀ c : List ℕ} {m reads s₀ s₁ s₂ s₃ s₄ s₅ : ℕ} (sofa
       omega (arith, rest (6 * m) (omega arith), rest (6 * m + 1) (omega arith), rest (6 * m + 2) (omega arith), rest (6 * m + 3) (omega arith), rest (6 * m + 4) (omega arith), rest (6 * m + 5) (omega arith))
 
   -- they fit
-  pub sums-fit : Summing c₀ (suc m) reads → reads < 2 ^ 62 → Small c (6 * m) s₀ s₁ s₂ s₃ s₄ s₅
+  pub sums-fit : Summing c₀ (suc m) reads → reads < 2 ^ 62 → SmallSums c (6 * m) s₀ s₁ s₂ s₃ s₄ s₅
   sums-fit summing few = omega (arith, next-sums, ordered c₀ (suc m) reads summing)
 
   module _ {r₀ r₁ r₂ r₃ r₄ r₅ : ℕ} (more : More c (6 * m) s₀ s₁ s₂ s₃ s₄ s₅ r₀ r₁ r₂ r₃ r₄ r₅) where
@@ -46,7 +46,7 @@ module _ {c₀ c : List ℕ} {m reads s₀ s₁ s₂ s₃ s₄ s₅ : ℕ} (sofa
     sums-ordered summing = omega (arith, next-sums, ordered c₀ (suc m) reads summing)
 
     -- one turn
-    pub turn : {d : List ℕ} → Written c d (6 * m) r₀ r₁ r₂ r₃ r₄ r₅ reads → Halfway c₀ d (m + 1) reads r₀ r₁ r₂ r₃ r₄ r₅
+    pub turn : {d : List ℕ} → CountsWritten c d (6 * m) r₀ r₁ r₂ r₃ r₄ r₅ reads → SizesCounted c₀ d (m + 1) reads r₀ r₁ r₂ r₃ r₄ r₅
     turn wrote = record {
       sums = rw add-one (omega (arith, next-sums));
       rest = λ x h. wrote .after x (omega arith) ∙ sofar .rest x (omega arith);

@@ -10,12 +10,12 @@ use Rattle.sizes.specs.Totals.{mostTo}
 use Rattle.sizes.specs.Renewals.{RowAt, Renewed, comes, stands, movedOf}
 use Rattle.sizes.specs.Sweeps.{RowsOf, Bound, Halfway, AllCounted}
 use Rattle.sizes.specs.declared.rows.Changes.{Changes}
-use Rattle.sizes.specs.declared.renewals.Read.{Read}
-use Rattle.sizes.proofs.RowLaws.{row-kept, apart, source-near, source-lo}
+use Rattle.sizes.specs.declared.renewals.RowRead.{RowRead}
+use Rattle.sizes.proofs.RowLaws.{row-kept, rows-apart, source-near, source-lo}
 use Rattle.sizes.proofs.RowCounts.{stretches-none}
 use Rattle.sizes.proofs.Exchanges.{sum-last, most-over, most-under}
 
-module _ (read : Read) (left : ℕ) (J : ℕ → ℕ) (L : ℕ → ℕ → ℕ) where
+module _ (read : RowRead) (left : ℕ) (J : ℕ → ℕ) (L : ℕ → ℕ → ℕ) where
   -- nothing is done yet
   pub halfway-none : (changes : Changes) (area : List ℕ) → changes .gained ≡ 0 → changes .lost ≡ left → changes .longest ≡ 0 → RowsOf area (read .width) (read .n) L → Halfway read left 0 (read .n) changes area J L
   halfway-none changes area g l m rows = record {
@@ -52,7 +52,7 @@ module _ (read : Read) (left : ℕ) (J : ℕ → ℕ) (L : ℕ → ℕ → ℕ) 
 
   module _ (k : ℕ) (changes next : Changes) (area last : List ℕ) (pos : 0 < read .p) (some : 0 < k) (le : k ≤ read .n) (fam : Family L (read .n)) (re : Renewed read J L k changes next area last) where
     other : (y : ℕ) (R : ℕ → ℕ) → 1 ≤ y → y ≢ k → RowAt area read y R → RowAt last read y R
-    other y R one ne row = row-kept area last ((k - 1) * read .width) (read .width) ((y - 1) * read .width) (read .n) R (re .kept) (apart k y (read .width) some (omega arith) ne) row
+    other y R one ne row = row-kept area last ((k - 1) * read .width) (read .width) ((y - 1) * read .width) (read .n) R (re .kept) (rows-apart k y (read .width) some (omega arith) ne) row
 
     below-most : (B : ℕ) → Bound (read .n) L B → max B (re .more .longest) ≡ max B (stands read J L k)
     below-most B bound = re .most B (comes-under k B pos some le fam bound)

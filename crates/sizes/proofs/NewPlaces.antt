@@ -12,7 +12,7 @@ use borrow.Author.Tests.{eq-eqb, ne-eqb}
 use Rattle.card.proofs.Moves.{depth, depth-there, getD-depth}
 use Rattle.card.proofs.Inclusion.{key-some, wanted-some}
 use Rattle.card.proofs.NextPlaces.{places-read, places-other}
-use Rattle.sizes.specs.Moves.{takenOut, putIn, after, own, sourceOf, newOf}
+use Rattle.sizes.specs.Moves.{takenOut, putIn, otherAfter, own, sourceOf, newOf}
 use Rattle.sizes.specs.Rows.{placesAt}
 use Rattle.sizes.proofs.PairLaws.{after-absent}
 use Rattle.card.proofs.StretchBounds.{places-fall}
@@ -142,8 +142,8 @@ module _ (rs : List Read) (r : Read) (n : ℕ) where
         (λ a. let b = simp tests at (sym (places-read rs r n) ∙ q) in other (sym b))
 
     -- another block comes there
-    comes : (y : ℕ) → keyAt more n i ≡ y → y ≢ 0 → (m : ℕ) → after readPlaces (wanted r) (family rs n (sourceOf (wanted r) (readPlaces n) (suc i))) m ≡ placesAt more n i m
-    unfolding after
+    comes : (y : ℕ) → keyAt more n i ≡ y → y ≢ 0 → (m : ℕ) → otherAfter readPlaces (wanted r) (family rs n (sourceOf (wanted r) (readPlaces n) (suc i))) m ≡ placesAt more n i m
+    unfolding otherAfter
     comes y e z m =
         let at-n : placesOf more y n ≡ suc i = ap (λ (w : ℕ). placesOf more w n) (sym e) ∙ key-place more n i (λ q. z (sym e ∙ q)) .1 in
         let diff : y ≢ blockRead r = λ q. not-read (ap (λ (w : ℕ). placesOf more w n) (sym q) ∙ at-n) in
@@ -155,7 +155,7 @@ module _ (rs : List Read) (r : Read) (n : ℕ) where
         rw fam (sym (places-other rs r m y (omega arith) diff) ∙ ap (λ (w : ℕ). placesOf more w m) (sym e) ∙ sym (placed more n i (λ q. z (sym e ∙ q)) m))
 
     -- none does
-    empties : keyAt more n i ≡ 0 → (m : ℕ) → after readPlaces (wanted r) (family rs n (sourceOf (wanted r) (readPlaces n) (suc i))) m ≡ 0
+    empties : keyAt more n i ≡ 0 → (m : ℕ) → otherAfter readPlaces (wanted r) (family rs n (sourceOf (wanted r) (readPlaces n) (suc i))) m ≡ 0
     empties e m =
         after-absent readPlaces (wanted r) (family rs n (sourceOf (wanted r) (readPlaces n) (suc i))) m (wanted-some r)
         (nothing (sourceOf (wanted r) (readPlaces n) (suc i)) refl)

@@ -13,9 +13,9 @@ use borrow.Author.Tests.{lt-ltb, le-ltb, eq-eqb, ne-eqb}
 use Rattle.card.specs.Stretches.{starts}
 use Rattle.card.proofs.Tests.{by-lt, by-eq}
 use Rattle.card.specs.Falling.{Falling}
-use Rattle.sizes.specs.Moves.{takenOut, putIn, after}
+use Rattle.sizes.specs.Moves.{takenOut, putIn, otherAfter}
 use Rattle.sizes.specs.Rows.{pairs}
-use Rattle.sizes.specs.Lists.{Holds, Begins, At, Level, Written, nextSize}
+use Rattle.sizes.specs.Lists.{Holds, Begins, At, Level, ListedUpTo, nextSize}
 
 pub lt-cases : (a b : ℕ) → (a < b) ⊎ (b ≤ a)
 lt-cases a b = by-lt a b inl inr
@@ -269,13 +269,13 @@ steady j p s m l hp hl hm c =
     (lt-cases (takenOut j l) s))
     (lt-cases (takenOut j l) p)
 
-pub after-level : (J L : ℕ → ℕ) (p s e : ℕ) → 0 < p → L s ≤ s → Level J s e → Level L s e → (L s ≡ 0) ⊎ (0 < after J p L s) → Level (after J p L) s e
-unfolding after
+pub after-level : (J L : ℕ → ℕ) (p s e : ℕ) → 0 < p → L s ≤ s → Level J s e → Level L s e → (L s ≡ 0) ⊎ (0 < otherAfter J p L s) → Level (otherAfter J p L) s e
+unfolding otherAfter
 after-level J L p s e hp hl lj ll c m hs he = rw (lj m hs he, ll m hs he) (steady (J s) p s m (L s) hp hl hs c)
 
 -- The new places are a block's places again.
-pub after-good : (J L : ℕ → ℕ) (p : ℕ) → 0 < p → Falling J → Falling L → Falling (after J p L)
-unfolding after
+pub after-good : (J L : ℕ → ℕ) (p : ℕ) → 0 < p → Falling J → Falling L → Falling (otherAfter J p L)
+unfolding otherAfter
 after-good J L p hp gj gl = record { fits = within; falls = stays }
   where
     within : (m : ℕ) → putIn p m (takenOut (J m) (L m)) ≤ m
@@ -313,12 +313,12 @@ pub flat-s : (R : ℕ → ℕ) (t s : ℕ) → s ≡ suc t → (R s ≡ 0) ⊎ (
 flat-s R t s es = subst (λ (z : ℕ). (R z ≡ 0) ⊎ (R t ≡ R z) → pairs R z ≡ pairs R t) (sym es) (pairs-flat R t)
 
 -- What stands is kept, under another size with the same list.
-pub written-eq : (out : List ℕ) (q : ℕ) (R : ℕ → ℕ) (t s : ℕ) → pairs R s ≡ pairs R t → Written out q R t → Written out q R s
-written-eq out q R t s e w = record { count = w .count ∙ ap length (sym e); same = λ x h. w .same x h ∙ ap (λ l. getD l x 0) (sym e) }
+pub listed-eq : (out : List ℕ) (q : ℕ) (R : ℕ → ℕ) (t s : ℕ) → pairs R s ≡ pairs R t → ListedUpTo out q R t → ListedUpTo out q R s
+listed-eq out q R t s e w = record { count = w .count ∙ ap length (sym e); same = λ x h. w .same x h ∙ ap (λ l. getD l x 0) (sym e) }
 
 -- A pair is written.
-pub written-more : (out : List ℕ) (q : ℕ) (R : ℕ → ℕ) (t s r : ℕ) → q + 2 ≤ length out → r ≡ R s → pairs R s ≡ pairs R t ++ (s ∷ R s ∷ []) → Written out q R t → Written (set (set out q s) (q + 1) r) (q + 2) R s
-written-more out q R t s r fits er e w = record { count = omega (arith, w .count, el); same = same }
+pub listed-more : (out : List ℕ) (q : ℕ) (R : ℕ → ℕ) (t s r : ℕ) → q + 2 ≤ length out → r ≡ R s → pairs R s ≡ pairs R t ++ (s ∷ R s ∷ []) → ListedUpTo out q R t → ListedUpTo (set (set out q s) (q + 1) r) (q + 2) R s
+listed-more out q R t s r fits er e w = record { count = omega (arith, w .count, el); same = same }
   where
     el : length (pairs R s) ≡ length (pairs R t) + 2
     el = ap length e ∙ length-append (pairs R t) (s ∷ R s ∷ [])
@@ -340,26 +340,26 @@ written-more out q R t s r fits er e w = record { count = omega (arith, w .count
         (lt-cases x q)
 
 -- A block that is absent before a read is so after it.
-pub after-absent : (J : ℕ → ℕ) (p : ℕ) (L : ℕ → ℕ) (m : ℕ) → 0 < p → L m ≡ 0 → after J p L m ≡ 0
-unfolding after
+pub after-absent : (J : ℕ → ℕ) (p : ℕ) (L : ℕ → ℕ) (m : ℕ) → 0 < p → L m ≡ 0 → otherAfter J p L m ≡ 0
+unfolding otherAfter
 after-absent J p L m hp none =
     let e : takenOut (J m) (L m) ≡ 0 = omega (arith, taken-le (J m) (L m), none) in
     ap (putIn p m) e ∙ put-low p m 0 hp
 
 -- What the merge has done once the sizes up to t are done.
-pub record State (J L : ℕ → ℕ) (p n : ℕ) (out : List ℕ) (t q last xi xv x yi yv y : ℕ) : Type 0 where
+pub record Merging (J L : ℕ → ℕ) (p n : ℕ) (out : List ℕ) (t q last xi xv x yi yv y : ℕ) : Type 0 where
   pub within : t ≤ n
   pub read : At J n t xi xv x
   pub other : At L n t yi yv y
-  pub done : Written out q (after J p L) t
-  pub place : last ≡ after J p L t
+  pub done : ListedUpTo out q (otherAfter J p L) t
+  pub place : last ≡ otherAfter J p L t
 
 -- Before the other's first size y there is nothing to do.
-pub state-first : (J L : ℕ → ℕ) (p n : ℕ) (out : List ℕ) (t xi xv x y : ℕ) → 0 < p → Falling L → t ≡ y - 1 → At L n 0 0 0 y → At J n t xi xv x → State J L p n out t 0 0 xi xv x 0 0 y
-state-first J L p n out t xi xv x y hp gl et first a =
+pub merging-first : (J L : ℕ → ℕ) (p n : ℕ) (out : List ℕ) (t xi xv x y : ℕ) → 0 < p → Falling L → t ≡ y - 1 → At L n 0 0 0 y → At J n t xi xv x → Merging J L p n out t 0 0 xi xv x 0 0 y
+merging-first J L p n out t xi xv x y hp gl et first a =
     let later = at-later L n 0 0 0 y (omega arith) first in
-    let none : (m : ℕ) → m ≤ t → after J p L m ≡ 0 = λ m h. after-absent J p L m hp (sym (at-still L n 0 0 0 y m gl (omega arith) first (omega arith) (omega arith) .place)) in
-    let same : pairs (after J p L) t ≡ [] = level-pairs (after J p L) 0 t (omega arith) (λ m h0 hm. none m hm ∙ sym (none 0 (omega arith))) ∙ pairs-zero (after J p L) in
+    let none : (m : ℕ) → m ≤ t → otherAfter J p L m ≡ 0 = λ m h. after-absent J p L m hp (sym (at-still L n 0 0 0 y m gl (omega arith) first (omega arith) (omega arith) .place)) in
+    let same : pairs (otherAfter J p L) t ≡ [] = level-pairs (otherAfter J p L) 0 t (omega arith) (λ m h0 hm. none m hm ∙ sym (none 0 (omega arith))) ∙ pairs-zero (otherAfter J p L) in
     record {
       within = omega arith;
       read = a;
@@ -369,14 +369,14 @@ state-first J L p n out t xi xv x y hp gl et first a =
     }
 
 -- Up to size e the new places stand still where both cursors do, but where the block is pushed out of size s.
-new-level : (J L : ℕ → ℕ) (p s e r l : ℕ) → 0 < p → Falling L → l ≡ L s → r ≡ after J p L s → (r ≡ 0 → 0 < l → e ≡ s) → Level J s e → Level L s e → Level (after J p L) s e
+new-level : (J L : ℕ → ℕ) (p s e r l : ℕ) → 0 < p → Falling L → l ≡ L s → r ≡ otherAfter J p L s → (r ≡ 0 → 0 < l → e ≡ s) → Level J s e → Level L s e → Level (otherAfter J p L) s e
 new-level J L p s e r l hp gl el er pushed lj ll =
     ⊎-elim (λ pos. after-level J L p s e hp (gl .fits s) lj ll (inr (omega arith)))
-    (λ out. ⊎-elim (λ there m hs he. ap (after J p L) (omega (arith, pushed (omega arith) there))) (λ none. after-level J L p s e hp (gl .fits s) lj ll (inl (omega arith))) (lt-cases 0 l))
+    (λ out. ⊎-elim (λ there m hs he. ap (otherAfter J p L) (omega (arith, pushed (omega arith) there))) (λ none. after-level J L p s e hp (gl .fits s) lj ll (inl (omega arith))) (lt-cases 0 l))
     (lt-cases 0 r)
 
-pub state-next : (J L : ℕ → ℕ) (p n : ℕ) (out : List ℕ) (s e q r xi xv x yi yv y : ℕ) → 0 < p → Falling J → Falling L → s ≤ n → s ≤ e → (s < x → e < x) × (s < y → e < y) → (r ≡ 0 → 0 < yv → e ≡ s) → At J n s xi xv x → At L n s yi yv y → Written out q (after J p L) s → r ≡ after J p L s → State J L p n out e q r xi xv x yi yv y
-state-next J L p n out s e q r xi xv x yi yv y hp gj gl hs h still pushed a b w er =
+pub merging-next : (J L : ℕ → ℕ) (p n : ℕ) (out : List ℕ) (s e q r xi xv x yi yv y : ℕ) → 0 < p → Falling J → Falling L → s ≤ n → s ≤ e → (s < x → e < x) × (s < y → e < y) → (r ≡ 0 → 0 < yv → e ≡ s) → At J n s xi xv x → At L n s yi yv y → ListedUpTo out q (otherAfter J p L) s → r ≡ otherAfter J p L s → Merging J L p n out e q r xi xv x yi yv y
+merging-next J L p n out s e q r xi xv x yi yv y hp gj gl hs h still pushed a b w er =
     let ax = at-later J n s xi xv x hs a in
     let ex : e < x = still .0 (ax .0) in
     let ey : e < y = still .1 (at-later L n s yi yv y hs b .0) in
@@ -385,14 +385,14 @@ state-next J L p n out s e q r xi xv x yi yv y hp gj gl hs h still pushed a b w 
       within = omega arith;
       read = at-still J n s xi xv x e gj hs a h ex;
       other = at-still L n s yi yv y e gl hs b h ey;
-      done = written-eq out q (after J p L) s e (level-pairs (after J p L) s e h lev) w;
+      done = listed-eq out q (otherAfter J p L) s e (level-pairs (otherAfter J p L) s e h lev) w;
       place = er ∙ sym (lev e h (omega arith));
     }
 
-pub rule-after : (J L : ℕ → ℕ) (p n s r xi xv x yi yv y : ℕ) → At J n s xi xv x → At L n s yi yv y → r ≡ putIn p s (takenOut xv yv) → r ≡ after J p L s
-unfolding after
+pub rule-after : (J L : ℕ → ℕ) (p n s r xi xv x yi yv y : ℕ) → At J n s xi xv x → At L n s yi yv y → r ≡ putIn p s (takenOut xv yv) → r ≡ otherAfter J p L s
+unfolding otherAfter
 rule-after J L p n s r xi xv x yi yv y a b e = e ∙ ap (λ (z : ℕ). putIn p s (takenOut z yv)) (a .place) ∙ ap (λ (z : ℕ). putIn p s (takenOut (J s) z)) (b .place)
 
 -- At the end: the stretches, and zeros after them.
-pub holds-all : (out last : List ℕ) (q : ℕ) (R : ℕ → ℕ) (n : ℕ) → Written out q R n → ((x : ℕ) → x < q → getD last x 0 ≡ getD out x 0) → ((x : ℕ) → q ≤ x → getD last x 0 ≡ 0) → Holds last R n
+pub holds-all : (out last : List ℕ) (q : ℕ) (R : ℕ → ℕ) (n : ℕ) → ListedUpTo out q R n → ((x : ℕ) → x < q → getD last x 0 ≡ getD out x 0) → ((x : ℕ) → q ≤ x → getD last x 0 ≡ 0) → Holds last R n
 holds-all out last q R n w below above x = ⊎-elim (λ lt. below x lt ∙ w .same x lt) (λ ge. above x ge ∙ sym (List·getD-eq-default (pairs R n) 0 (omega (arith, w .count)))) (lt-cases x q)

@@ -7,18 +7,18 @@ use lib.ListN.{length, getD}
 use lib.Seq.{ext-getD}
 use Rattle.terms.specs.Reads.{Read}
 use Rattle.card.specs.Run.{count}
-use Rattle.sizes.specs.Tallies.{Sums, Tallied}
+use Rattle.sizes.specs.Tallies.{TallySums, Tallied}
 use Rattle.sizes.specs.Outcome.{countsLength, countsOf}
 use Rattle.sizes.proofs.RanOutcomes.{counts-length}
 use Rattle.sizes.proofs.RanFacts.{count-at}
 
 module _ (n : ℕ) (rs : List Read) (entry exit : List ℕ) (t : Tallied n rs entry)
-    (f : (m : ℕ) → 1 ≤ m → m ≤ n → Sums entry m (length rs) (getD exit (6 * (m - 1)) 0) (getD exit (6 * (m - 1) + 1) 0) (getD exit (6 * (m - 1) + 2) 0) (getD exit (6 * (m - 1) + 3) 0) (getD exit (6 * (m - 1) + 4) 0) (getD exit (6 * (m - 1) + 5) 0)) where
+    (f : (m : ℕ) → 1 ≤ m → m ≤ n → TallySums entry m (length rs) (getD exit (6 * (m - 1)) 0) (getD exit (6 * (m - 1) + 1) 0) (getD exit (6 * (m - 1) + 2) 0) (getD exit (6 * (m - 1) + 3) 0) (getD exit (6 * (m - 1) + 4) 0) (getD exit (6 * (m - 1) + 5) 0)) where
   module _ (m : ℕ) (h : m < n) where
-    before : Sums entry (suc m) (length rs) (count (suc m) 0 rs) (count (suc m) 1 rs) (count (suc m) 2 rs) (count (suc m) 3 rs) (count (suc m) 4 rs) (count (suc m) 5 rs)
+    before : TallySums entry (suc m) (length rs) (count (suc m) 0 rs) (count (suc m) 1 rs) (count (suc m) 2 rs) (count (suc m) 3 rs) (count (suc m) 4 rs) (count (suc m) 5 rs)
     before = t (suc m) (omega arith) (omega arith)
 
-    after : Sums entry (suc m) (length rs) (getD exit (6 * (suc m - 1)) 0) (getD exit (6 * (suc m - 1) + 1) 0) (getD exit (6 * (suc m - 1) + 2) 0) (getD exit (6 * (suc m - 1) + 3) 0) (getD exit (6 * (suc m - 1) + 4) 0) (getD exit (6 * (suc m - 1) + 5) 0)
+    after : TallySums entry (suc m) (length rs) (getD exit (6 * (suc m - 1)) 0) (getD exit (6 * (suc m - 1) + 1) 0) (getD exit (6 * (suc m - 1) + 2) 0) (getD exit (6 * (suc m - 1) + 3) 0) (getD exit (6 * (suc m - 1) + 4) 0) (getD exit (6 * (suc m - 1) + 5) 0)
     after = f (suc m) (omega arith) (omega arith)
 
     at : (i j : ℕ) → i ≡ j → getD exit i 0 ≡ getD exit j 0

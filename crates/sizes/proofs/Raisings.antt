@@ -9,12 +9,12 @@ use lib.Seq.{getD-set-same, getD-set-other}
 use Rattle.card.specs.Stretches.{stretches}
 use Rattle.card.specs.Falling.{Falling}
 use Rattle.card.proofs.Tests.{by-lt, by-eq}
-use Rattle.sizes.specs.Moves.{takenOut, putIn, after, Raised}
+use Rattle.sizes.specs.Moves.{takenOut, putIn, otherAfter, Raised}
 use Rattle.sizes.specs.Rows.{pairs, rowLength, Row}
 use Rattle.sizes.specs.Renewals.{Kept}
 use Rattle.sizes.proofs.PairLaws.{taken-cases, put-low, pairs-zero, pairs-flat, pairs-start, pairs-cases, after-absent}
 use Rattle.sizes.proofs.PairFacts.{two, pairs-fit, falls, entries, in-list}
-use Rattle.sizes.proofs.RowLaws.{untouched}
+use Rattle.sizes.proofs.RowLaws.{kept-same}
 use Rattle.sizes.proofs.RowSkips.{first-bound}
 
 -- ---- each place one less
@@ -102,7 +102,7 @@ pub record Raising (area₀ area : List ℕ) (from at width h : ℕ) : Type 0 wh
 pub raising-none : (area : List ℕ) (from at width : ℕ) → Raising area area from at width 0
 raising-none area from at width = record {
   inside = omega arith;
-  kept = untouched area at (2 * 0);
+  kept = kept-same area at (2 * 0);
   firsts = λ x h. absurd (omega arith);
   places = λ x h. absurd (omega arith);
   some = λ x h. absurd (omega arith);
@@ -176,8 +176,8 @@ module _ (area₀ area : List ℕ) (from at width h : ℕ) (raising : Raising ar
 
 -- the block read was above it wherever it is, and it is put in below or at its first place
 pub raised-after : (J S : ℕ → ℕ) (p n j s start place first highest : ℕ) → 0 < p → Falling J → Falling S → S n ≡ s → j ≡ J n → 0 < j → start ≡ getD (pairs J n) 0 0 → place ≡ getD (pairs J n) 1 0
-    → first ≡ getD (pairs S n) 0 0 → highest ≡ getD (pairs S n) 1 0 → place < s → start ≤ first → highest ≤ p → Raised (after J p S) S n
-unfolding after
+    → first ≡ getD (pairs S n) 0 0 → highest ≡ getD (pairs S n) 1 0 → place < s → start ≤ first → highest ≤ p → Raised (otherAfter J p S) S n
+unfolding otherAfter
 raised-after J S p n j s start place first highest pos gj gs es ej some estart eplace efirst ehigh ps sf hp m hm = by-lt 0 (S m)
     (λ there.
     let d = first-bound J n n gj (omega arith) (omega arith) in

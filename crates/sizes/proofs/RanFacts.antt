@@ -144,10 +144,10 @@ module _ (bytes : List ℕ) (areas : Areas) (reads total₁ one : ℕ) (a : Acce
   rs = a .trace .reads
 
   -- the count of an outcome at a size, as the run leaves it
-  abbrev pub cell : (m o : ℕ) → ℕ
-  cell m o = getD (runOf bytes areas .areas .counts) (6 * (m - 1) + o) 0
+  abbrev pub countLeft : (m o : ℕ) → ℕ
+  countLeft m o = getD (runOf bytes areas .areas .counts) (6 * (m - 1) + o) 0
 
-  pub cell-is : (m o : ℕ) → 1 ≤ m → m ≤ a .trace .header .size → o < 6 → cell m o ≡ count m o (a .trace .reads)
+  pub cell-is : (m o : ℕ) → 1 ≤ m → m ≤ a .trace .header .size → o < 6 → countLeft m o ≡ count m o (a .trace .reads)
   cell-is m o h l g =
       let inside : 6 * (m - 1) + o < length (countsOf n rs) = omega (arith, counts-length n rs) in
       let back : suc (m - 1) ≡ m = omega arith in
@@ -157,12 +157,12 @@ module _ (bytes : List ℕ) (areas : Areas) (reads total₁ one : ℕ) (a : Acce
       ∙ ap (λ (k : ℕ). count k o rs) back
 
   -- the six of a size add up to the reads
-  pub cells-sum : (m : ℕ) → 1 ≤ m → m ≤ a .trace .header .size → cell m 0 + cell m 1 + cell m 2 + cell m 3 + cell m 4 + cell m 5 ≡ reads
+  pub cells-sum : (m : ℕ) → 1 ≤ m → m ≤ a .trace .header .size → countLeft m 0 + countLeft m 1 + countLeft m 2 + countLeft m 3 + countLeft m 4 + countLeft m 5 ≡ reads
   cells-sum m h l =
       omega (arith, counts-sum m rs, a .reads-are, cell-is m 0 h l (omega arith), cell-is m 1 h l (omega arith), cell-is m 2 h l (omega arith), cell-is m 3 h l (omega arith), cell-is m 4 h l (omega arith), cell-is m 5 h l (omega arith))
 
   -- misses, insert plus miss bypass, never rise with the size
-  pub misses-fall : (m k : ℕ) → 1 ≤ m → m ≤ k → k ≤ a .trace .header .size → cell k 4 + cell k 5 ≤ cell m 4 + cell m 5
+  pub misses-fall : (m k : ℕ) → 1 ≤ m → m ≤ k → k ≤ a .trace .header .size → countLeft k 4 + countLeft k 5 ≤ countLeft m 4 + countLeft m 5
   misses-fall m k h l g =
       omega (arith, fewer-misses m k l rs, cell-is m 4 h (omega arith) (omega arith), cell-is m 5 h (omega arith) (omega arith), cell-is k 4 (omega arith) g (omega arith), cell-is k 5 (omega arith) g (omega arith))
 

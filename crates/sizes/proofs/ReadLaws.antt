@@ -17,7 +17,7 @@ use Rattle.card.specs.Falling.{Falling}
 use Rattle.sizes.specs.Moves.{newOf}
 use Rattle.sizes.specs.Totals.{Totals, sumTo, mostTo}
 use Rattle.sizes.specs.Rows.{pairs, rowLength, Row, Held, placesAt}
-use Rattle.sizes.specs.Sweeps.{Found}
+use Rattle.sizes.specs.Sweeps.{FoundInRows}
 use Rattle.sizes.specs.Tallies.{Tallied}
 use Rattle.sizes.specs.Lists.{Holds}
 use Rattle.sizes.specs.TallySteps.{ReadTallied}
@@ -86,7 +86,7 @@ module _ (n key p j : ℕ) (blocks area list : List ℕ) (here : j ≡ place blo
   own-family h m = ap (λ (k : ℕ). family rs n k m) there ∙ family-read n rs r blocks area held (omega (arith, there)) m
 
   -- what the rows are told
-  pub found : Found list area n j J (family rs n)
+  pub found : FoundInRows list area n j J (family rs n)
   found = record {
     falling = falls;
     family = family-is rs n;

@@ -18,8 +18,8 @@ pub stretches-none : (R : ℕ → ℕ) (n : ℕ) → ((m : ℕ) → R m ≡ 0) �
 stretches-none R n none = omega (arith, two R n, ap length (pairs-none R n none))
 
 -- a list's stretches, by its entries
-pub stretches-half : (R : ℕ → ℕ) (n x : ℕ) → x ≡ length (pairs R n) → x / 2 ≡ stretches R n
-stretches-half R n x e = omega (arith, two R n)
+pub stretches-entries : (R : ℕ → ℕ) (n x : ℕ) → x ≡ length (pairs R n) → x / 2 ≡ stretches R n
+stretches-entries R n x e = omega (arith, two R n)
 
 -- what leaves
 module _ (J : ℕ → ℕ) (L : ℕ → ℕ → ℕ) (n p j : ℕ) where
@@ -28,7 +28,7 @@ module _ (J : ℕ → ℕ) (L : ℕ → ℕ → ℕ) (n p j : ℕ) where
 
   pub left-read : (x : ℕ) → 0 < j → x ≡ length (pairs J n) → Left (x / 2)
   unfolding leftOf
-  left-read x pos e = let ne : j ≢ 0 = omega arith in simp tests (stretches-half J n x e)
+  left-read x pos e = let ne : j ≢ 0 = omega arith in simp tests (stretches-entries J n x e)
 
   pub left-bypass : (j ≡ 0) → n < p → Left 0
   unfolding leftOf

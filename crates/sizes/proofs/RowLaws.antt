@@ -11,7 +11,7 @@ use lib.Dec.{eqb, ltb}
 use lib.ListN.{getD}
 use borrow.Author.Tests.{lt-ltb, le-ltb, eq-eqb, ne-eqb}
 use Rattle.card.proofs.Tests.{bit}
-use Rattle.sizes.specs.Moves.{after, own, sourceOf, newOf}
+use Rattle.sizes.specs.Moves.{otherAfter, own, sourceOf, newOf}
 use Rattle.sizes.specs.Rows.{pairs, Row}
 use Rattle.sizes.specs.Renewals.{Kept}
 use Rattle.sizes.proofs.PairLaws.{lt-cases, eq-cases, level-pairs, pairs-zero, after-absent}
@@ -41,7 +41,7 @@ pub new-own : (J : ℕ → ℕ) (p j : ℕ) (L : ℕ → ℕ → ℕ) (k : ℕ) 
 unfolding newOf
 new-own J p j L k e = simp (eq-eqb k p e)
 
-pub new-other : (J : ℕ → ℕ) (p j : ℕ) (L : ℕ → ℕ → ℕ) (k : ℕ) → (k ≡ p → ⊥) → newOf J p j L k ≡ after J p (L (sourceOf p j k))
+pub new-other : (J : ℕ → ℕ) (p j : ℕ) (L : ℕ → ℕ → ℕ) (k : ℕ) → (k ≡ p → ⊥) → newOf J p j L k ≡ otherAfter J p (L (sourceOf p j k))
 unfolding newOf
 new-other J p j L k e = simp (ne-eqb k p e)
 
@@ -67,12 +67,12 @@ kept-twice area mid last a v w le first second = record {
 }
 
 -- What writes nothing keeps all.
-pub untouched : (area : List ℕ) (a w : ℕ) → Kept area area a w
-untouched area a w = record { size = refl; below = λ x h. refl; above = λ x h. refl }
+pub kept-same : (area : List ℕ) (a w : ℕ) → Kept area area a w
+kept-same area a w = record { size = refl; below = λ x h. refl; above = λ x h. refl }
 
 -- What answers that it moved nothing wrote nothing.
 pub unmoved : {X : Type 0} (area : List ℕ) (a w : ℕ) → (Kept area area a w × (false ≡ false → area ≡ area)) × (false ≡ true → X)
-unmoved area a w = ((untouched area a w, λ e. refl), never)
+unmoved area a w = ((kept-same area a w, λ e. refl), never)
 
 pub next-base : (k w : ℕ) → (k + 1) * w ≡ k * w + w
 next-base k w = ap (λ (z : ℕ). z * w) (add-one k) ∙ suc-mul k w
@@ -131,11 +131,11 @@ module _ (p j k : ℕ) where
       (back-cases p k)
 
 -- A block that is nowhere stays so.
-pub after-none : (J : ℕ → ℕ) (p : ℕ) (L : ℕ → ℕ) → 0 < p → ((m : ℕ) → L m ≡ 0) → (m : ℕ) → after J p L m ≡ 0
+pub after-none : (J : ℕ → ℕ) (p : ℕ) (L : ℕ → ℕ) → 0 < p → ((m : ℕ) → L m ≡ 0) → (m : ℕ) → otherAfter J p L m ≡ 0
 after-none J p L hp none m = after-absent J p L m hp (none m)
 
-pub apart : (k y w : ℕ) → 0 < k → 0 < y → (y ≡ k → ⊥) → ((y - 1) * w + w ≤ (k - 1) * w) ⊎ ((k - 1) * w + w ≤ (y - 1) * w)
-apart k y w hk hy ne = ⊎-elim (λ lt. inl (base-le (y - 1) (k - 1) w (omega arith))) (λ ge. inr (base-le (k - 1) (y - 1) w (omega (arith, ne)))) (lt-cases y k)
+pub rows-apart : (k y w : ℕ) → 0 < k → 0 < y → (y ≡ k → ⊥) → ((y - 1) * w + w ≤ (k - 1) * w) ⊎ ((k - 1) * w + w ≤ (y - 1) * w)
+rows-apart k y w hk hy ne = ⊎-elim (λ lt. inl (base-le (y - 1) (k - 1) w (omega arith))) (λ ge. inr (base-le (k - 1) (y - 1) w (omega (arith, ne)))) (lt-cases y k)
 
 -- a place of the area is an index, and there is no room for more places than that
 pub rows-fit : (n w x : ℕ) → 2 ≤ w → n * w ≤ x → 2 * n ≤ x

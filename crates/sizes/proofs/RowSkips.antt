@@ -5,7 +5,7 @@ use Prim.Native.Nat.{ℕ, _-_, _≤_, _<_}
 use native.Mathlib.Omega.{arith}
 use lib.ListN.{length, getD}
 use Rattle.card.specs.Falling.{Falling}
-use Rattle.sizes.specs.Moves.{takenOut, putIn, after}
+use Rattle.sizes.specs.Moves.{takenOut, putIn, otherAfter}
 use Rattle.sizes.specs.Rows.{pairs}
 use Rattle.sizes.proofs.PairLaws.{lt-cases, taken-cases, taken-le, put-low, put-high, hold, moves, pairs-zero}
 use Rattle.sizes.proofs.PairFacts.{two, falls, entries, in-list}
@@ -28,8 +28,8 @@ first-bound R n m good hm pos =
 pub nowhere : (R : ℕ → ℕ) (n : ℕ) → Falling R → (0 < R n) ⊎ ((m : ℕ) → R m ≡ 0) → getD (pairs R n) 0 0 ≡ 0 → (m : ℕ) → R m ≡ 0
 nowhere R n good some e m = ⊎-elim (λ pos. absurd (omega (arith, first-bound R n n good (omega arith) pos .0))) (λ none. none m) some
 
-pub keep-above : (J L : ℕ → ℕ) (p n j x : ℕ) → 0 < p → Falling J → Falling L → j ≡ J n → x ≡ getD (pairs L n) 1 0 → x < p → (j ≡ 0) ⊎ (x < j) → (m : ℕ) → m ≤ n → after J p L m ≡ L m
-unfolding after
+pub keep-above : (J L : ℕ → ℕ) (p n j x : ℕ) → 0 < p → Falling J → Falling L → j ≡ J n → x ≡ getD (pairs L n) 1 0 → x < p → (j ≡ 0) ⊎ (x < j) → (m : ℕ) → m ≤ n → otherAfter J p L m ≡ L m
+unfolding otherAfter
 keep-above J L p n j x hp gj gl ej ex hx hj m hm =
     ⊎-elim
     (λ pos.
@@ -41,8 +41,8 @@ keep-above J L p n j x hp gj gl ej ex hx hj m hm =
     (λ z. let t : takenOut (J m) (L m) ≡ 0 = omega (arith, taken-le (J m) (L m)) in ap (putIn p m) t ∙ put-low p m 0 hp ∙ omega arith)
     (lt-cases 0 (L m))
 
-pub keep-below : (J L : ℕ → ℕ) (p n j k c x l : ℕ) → 0 < p → Falling J → Falling L → j ≡ J n → L n ≡ k → c ≡ getD (pairs L n) 0 0 → x ≡ getD (pairs J n) 0 0 → l ≡ getD (pairs J n) 1 0 → 0 < j → x ≤ c → p < k → l < k → (m : ℕ) → m ≤ n → after J p L m ≡ L m
-unfolding after
+pub keep-below : (J L : ℕ → ℕ) (p n j k c x l : ℕ) → 0 < p → Falling J → Falling L → j ≡ J n → L n ≡ k → c ≡ getD (pairs L n) 0 0 → x ≡ getD (pairs J n) 0 0 → l ≡ getD (pairs J n) 1 0 → 0 < j → x ≤ c → p < k → l < k → (m : ℕ) → m ≤ n → otherAfter J p L m ≡ L m
+unfolding otherAfter
 keep-below J L p n j k c x l hp gj gl ej ek ec ex el hj hx hpk hl m hm =
     ⊎-elim
     (λ pos.

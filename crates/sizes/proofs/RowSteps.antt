@@ -7,14 +7,14 @@ use native.Mathlib.Omega.{arith}
 use lib.ListN.{length, getD}
 use Rattle.card.specs.Stretches.{stretches}
 use Rattle.card.proofs.Tests.{tests}
-use Rattle.sizes.specs.Moves.{after, own, Family, sourceOf, newOf}
+use Rattle.sizes.specs.Moves.{otherAfter, own, Family, sourceOf, newOf}
 use Rattle.sizes.specs.Rows.{pairs, Row}
-use Rattle.sizes.specs.Renewals.{Kept, Carried, CarriedNone, Merged, Together, Small, Grown, Fits, RowAt, Finds, Renewed, Renews, comes, stands, movedOf}
+use Rattle.sizes.specs.Renewals.{Kept, Carried, CarriedNone, Merged, Together, ChangesBelow, Grown, Fits, RowAt, Finds, Renewed, Renews, comes, stands, movedOf}
 use Rattle.sizes.specs.declared.rows.Changes.{Changes}
-use Rattle.sizes.specs.declared.renewals.Read.{Read}
+use Rattle.sizes.specs.declared.renewals.RowRead.{RowRead}
 use Rattle.sizes.proofs.PairLists.{pairs-same, stretches-same}
 use Rattle.sizes.proofs.PairFacts.{two, pairs-own}
-use Rattle.sizes.proofs.RowLaws.{untouched, pairs-none, after-none, row-first, row-eq, new-own, new-other, source-up}
+use Rattle.sizes.proofs.RowLaws.{kept-same, pairs-none, after-none, row-first, row-eq, new-own, new-other, source-up}
 use Rattle.sizes.proofs.RowCounts.{stretches-none}
 use Rattle.sizes.proofs.Ways.{Way}
 
@@ -37,31 +37,31 @@ abbrev no-changes : Changes
 no-changes = record { gained = 0; lost = 0; longest = 0 }
 
 -- a row's numbers are small beside what is counted
-module _ {read : Read} {area : ℕ} (fits : Fits read area) (changes more : Changes) (gained : more .gained ≤ read .width) (lost : more .lost ≤ read .width) where
-  pub merged-small : Small changes (2 ^ 48) → (changes .gained + more .gained < 2 ^ 64) × (changes .lost + more .lost < 2 ^ 64)
+module _ {read : RowRead} {area : ℕ} (fits : Fits read area) (changes more : Changes) (gained : more .gained ≤ read .width) (lost : more .lost ≤ read .width) where
+  pub merged-small : ChangesBelow changes (2 ^ 48) → (changes .gained + more .gained < 2 ^ 64) × (changes .lost + more .lost < 2 ^ 64)
   merged-small small = (omega (arith, fits .wide, fits .narrow, small .0), omega (arith, fits .wide, fits .narrow, small .1))
 
   pub merged-grown : (next : Changes) → Together changes more next → Grown changes next (2 ^ 16)
   merged-grown next together = (omega (arith, fits .wide, fits .narrow, together .0), omega (arith, fits .wide, fits .narrow, together .1))
 
 -- a block that comes from place s
-module _ (read : Read) {s k : ℕ} (ne : k ≢ read .p) (es : s ≡ sourceOf (read .p) (read .j) k) (J : ℕ → ℕ) (L : ℕ → ℕ → ℕ) where
+module _ (read : RowRead) {s k : ℕ} (ne : k ≢ read .p) (es : s ≡ sourceOf (read .p) (read .j) k) (J : ℕ → ℕ) (L : ℕ → ℕ → ℕ) where
   comes-is : comes read L k ≡ stretches (L s) (read .n)
   unfolding movedOf
   comes-is = rw es (simp tests)
 
-  moved-is : newOf J (read .p) (read .j) L k ≡ after J (read .p) (L s)
-  moved-is = new-other J (read .p) (read .j) L k ne ∙ ap (λ (z : ℕ). after J (read .p) (L z)) (sym es)
+  moved-is : newOf J (read .p) (read .j) L k ≡ otherAfter J (read .p) (L s)
+  moved-is = new-other J (read .p) (read .j) L k ne ∙ ap (λ (z : ℕ). otherAfter J (read .p) (L z)) (sym es)
 
-  stands-is : stands read J L k ≡ stretches (after J (read .p) (L s)) (read .n)
+  stands-is : stands read J L k ≡ stretches (otherAfter J (read .p) (L s)) (read .n)
   stands-is = ap (λ (F : ℕ → ℕ). stretches F (read .n)) moved-is
 
   -- with as many stretches as it had
-  carried-row : (changes : Changes) (area last : List ℕ) → Kept area last ((k - 1) * read .width) (read .width) → RowAt last read k (after J (read .p) (L s))
-      → stretches (after J (read .p) (L s)) (read .n) ≡ stretches (L s) (read .n) → Renewed read J L k changes changes area last
+  carried-row : (changes : Changes) (area last : List ℕ) → Kept area last ((k - 1) * read .width) (read .width) → RowAt last read k (otherAfter J (read .p) (L s))
+      → stretches (otherAfter J (read .p) (L s)) (read .n) ≡ stretches (L s) (read .n) → Renewed read J L k changes changes area last
   carried-row changes area last kept row same = record {
     kept = kept;
-    row = row-eq last ((k - 1) * read .width) (read .width) (read .n) (after J (read .p) (L s)) (newOf J (read .p) (read .j) L k) moved-is row;
+    row = row-eq last ((k - 1) * read .width) (read .width) (read .n) (otherAfter J (read .p) (L s)) (newOf J (read .p) (read .j) L k) moved-is row;
     more = no-changes;
     balance = omega (arith, comes-is, stands-is, same);
     most = λ B under. omega (arith, comes-is, stands-is, same);
@@ -69,11 +69,11 @@ module _ (read : Read) {s k : ℕ} (ne : k ≢ read .p) (es : s ≡ sourceOf (re
   }
 
   -- with another number of them
-  merged-row : (changes more next : Changes) (area last : List ℕ) → Kept area last ((k - 1) * read .width) (read .width) → RowAt last read k (after J (read .p) (L s))
-      → more .gained ≡ stretches (after J (read .p) (L s)) (read .n) → more .lost ≡ stretches (L s) (read .n) → more .longest ≡ more .gained → Together changes more next → Renewed read J L k changes next area last
+  merged-row : (changes more next : Changes) (area last : List ℕ) → Kept area last ((k - 1) * read .width) (read .width) → RowAt last read k (otherAfter J (read .p) (L s))
+      → more .gained ≡ stretches (otherAfter J (read .p) (L s)) (read .n) → more .lost ≡ stretches (L s) (read .n) → more .longest ≡ more .gained → Together changes more next → Renewed read J L k changes next area last
   merged-row changes more next area last kept row eg el em together = record {
     kept = kept;
-    row = row-eq last ((k - 1) * read .width) (read .width) (read .n) (after J (read .p) (L s)) (newOf J (read .p) (read .j) L k) moved-is row;
+    row = row-eq last ((k - 1) * read .width) (read .width) (read .n) (otherAfter J (read .p) (L s)) (newOf J (read .p) (read .j) L k) moved-is row;
     more = more;
     balance = omega (arith, comes-is, stands-is);
     most = λ B under. omega (arith, stands-is);
@@ -81,7 +81,7 @@ module _ (read : Read) {s k : ℕ} (ne : k ≢ read .p) (es : s ≡ sourceOf (re
   }
 
 -- whatever a read finds
-module _ (list : List ℕ) {read : Read} {s k from at : ℕ} (way : Way read s k from at) (changes : Changes) (area : List ℕ) where
+module _ (list : List ℕ) {read : RowRead} {s k from at : ℕ} (way : Way read s k from at) (changes : Changes) (area : List ℕ) where
   -- the rows under their indices
   row-from : (L : ℕ → ℕ → ℕ) → RowAt area read s (L s) → Row area from (read .width) (pairs (L s) (read .n))
   row-from L = row-at area ((s - 1) * read .width) from (read .width) (read .n) (L s) (sym (way .from-is))
@@ -101,7 +101,7 @@ module _ (list : List ℕ) {read : Read} {s k from at : ℕ} (way : Way read s k
       → Renews list read s k changes changes area last
   renews-carried last kept carried J L finds source was =
       let new = carried J L finds (row-from L source) (row-from L source) (row-to L was) in
-      carried-row read (way .other) (way .source) J L changes area last (kept-there last kept) (row-there last (after J (read .p) (L s)) (new .0)) (new .1)
+      carried-row read (way .other) (way .source) J L changes area last (kept-there last kept) (row-there last (otherAfter J (read .p) (L s)) (new .0)) (new .1)
 
   -- none
   pub renews-none : Fits read (length area) → (last : List ℕ) → Kept area last at (read .width) → CarriedNone area last from at (read .width) → Renews list read s k changes changes area last
@@ -122,27 +122,27 @@ module _ (list : List ℕ) {read : Read} {s k from at : ℕ} (way : Way read s k
   renews-merged before last e more next kept merged together J L finds source was =
       let good = finds .family .good in
       let new = (rw e at merged) J (L s) (L k) (finds .falling) (good s) (good k) (finds .begins) (row-from L source) (row-to L was) in
-      merged-row read (way .other) (way .source) J L changes more next area last (kept-there last (rw e at kept)) (row-there last (after J (read .p) (L s)) (new .0)) (new .1) (new .2) (new .3) together
+      merged-row read (way .other) (way .source) J L changes more next area last (kept-there last (rw e at kept)) (row-there last (otherAfter J (read .p) (L s)) (new .0)) (new .1) (new .2) (new .3) together
 
 -- a list that the read leaves as it is
-pub still-row : {read : Read} {k at : ℕ} → Way read k k at at → (J : ℕ → ℕ) (L : ℕ → ℕ → ℕ) (changes : Changes) (area : List ℕ) → ((m : ℕ) → m ≤ read .n → after J (read .p) (L k) m ≡ L k m) → RowAt area read k (L k) → Renewed read J L k changes changes area area
+pub still-row : {read : RowRead} {k at : ℕ} → Way read k k at at → (J : ℕ → ℕ) (L : ℕ → ℕ → ℕ) (changes : Changes) (area : List ℕ) → ((m : ℕ) → m ≤ read .n → otherAfter J (read .p) (L k) m ≡ L k m) → RowAt area read k (L k) → Renewed read J L k changes changes area area
 still-row {read} {k} way J L changes area same row =
-    carried-row read (way .other) (way .source) J L changes area area (untouched area ((k - 1) * read .width) (read .width))
-    (λ q h. row q h ∙ ap (λ (l : List ℕ). getD l q 0) (sym (pairs-same (after J (read .p) (L k)) (L k) (read .n) same)))
-    (stretches-same (after J (read .p) (L k)) (L k) (read .n) same)
+    carried-row read (way .other) (way .source) J L changes area area (kept-same area ((k - 1) * read .width) (read .width))
+    (λ q h. row q h ∙ ap (λ (l : List ℕ). getD l q 0) (sym (pairs-same (otherAfter J (read .p) (L k)) (L k) (read .n) same)))
+    (stretches-same (otherAfter J (read .p) (L k)) (L k) (read .n) same)
 
 -- the last row, where the block read leaves the card that it is not put in
-pub emptied-row : (read : Read) (J : ℕ → ℕ) (L : ℕ → ℕ → ℕ) (changes : Changes) (area last : List ℕ) → Fits read (length area) → read .n < read .p → 0 < read .j → read .j ≤ read .n → Family L (read .n) → Kept area last ((read .n - 1) * read .width) (read .width)
+pub emptied-row : (read : RowRead) (J : ℕ → ℕ) (L : ℕ → ℕ → ℕ) (changes : Changes) (area last : List ℕ) → Fits read (length area) → read .n < read .p → 0 < read .j → read .j ≤ read .n → Family L (read .n) → Kept area last ((read .n - 1) * read .width) (read .width)
     → ((q : ℕ) → q < read .width → getD last ((read .n - 1) * read .width + q) 0 ≡ 0) → Renewed read J L (read .n) changes changes area last
 emptied-row read J L changes area last fits past present within fam kept zeros =
     let none = fam .past in
     let gone = after-none J (read .p) (L (read .n + 1)) (fits .read-at) none in
     carried-row read (λ e. omega arith) (sym (source-up (read .p) (read .j) (read .n) past present within)) J L changes area last kept
-    (λ q h. zeros q h ∙ sym (ap (λ (l : List ℕ). getD l q 0) (pairs-none (after J (read .p) (L (read .n + 1))) (read .n) gone)))
-    (stretches-none (after J (read .p) (L (read .n + 1))) (read .n) gone ∙ sym (stretches-none (L (read .n + 1)) (read .n) none))
+    (λ q h. zeros q h ∙ sym (ap (λ (l : List ℕ). getD l q 0) (pairs-none (otherAfter J (read .p) (L (read .n + 1))) (read .n) gone)))
+    (stretches-none (otherAfter J (read .p) (L (read .n + 1))) (read .n) gone ∙ sym (stretches-none (L (read .n + 1)) (read .n) none))
 
 -- the block read
-pub own-row : (read : Read) (J : ℕ → ℕ) (L : ℕ → ℕ → ℕ) (changes next : Changes) (area last : List ℕ) → 0 < read .p → read .p ≤ read .n → Kept area last ((read .p - 1) * read .width) (read .width) → RowAt last read (read .p) (own (read .p))
+pub own-row : (read : RowRead) (J : ℕ → ℕ) (L : ℕ → ℕ → ℕ) (changes next : Changes) (area last : List ℕ) → 0 < read .p → read .p ≤ read .n → Kept area last ((read .p - 1) * read .width) (read .width) → RowAt last read (read .p) (own (read .p))
     → (more : Changes) → more .gained ≡ 1 → more .lost ≡ 0 → more .longest ≡ 1 → Together changes more next → Renewed read J L (read .p) changes next area last
 unfolding movedOf
 own-row read J L changes next area last pos le kept row more eg el em together =

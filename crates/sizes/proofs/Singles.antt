@@ -10,7 +10,7 @@ use lib.ListN.{length, getD}
 use Rattle.card.specs.Stretches.{stretches}
 use Rattle.card.proofs.Tests.{by-lt, by-eq, tests}
 use Rattle.card.specs.Falling.{Falling}
-use Rattle.sizes.specs.Moves.{takenOut, putIn, after}
+use Rattle.sizes.specs.Moves.{takenOut, putIn, otherAfter}
 use Rattle.sizes.specs.Rows.{pairs, Row}
 use Rattle.sizes.proofs.PairLaws.{taken-cases, taken-le, put-low, put-high, put-out}
 use Rattle.sizes.proofs.PairFacts.{two, pairs-one, falls}
@@ -55,14 +55,14 @@ single-row area from w n s L wide pos es en fall row =
 
 module _ (J L : ℕ → ℕ) (p n j c l : ℕ) (pos : 0 < p) (fall : Falling J) (ej : j ≡ J n) (one : Single L n c l) where
   -- where it is absent it stays so
-  after-low : (m : ℕ) → m < c → after J p L m ≡ 0
-  unfolding after
+  after-low : (m : ℕ) → m < c → otherAfter J p L m ≡ 0
+  unfolding otherAfter
   after-low m h =
       let t : takenOut (J m) (L m) ≡ 0 = omega (arith, taken-le (J m) (L m), one .low m h) in
       ap (putIn p m) t ∙ put-low p m 0 pos
 
-  after-high : (m x : ℕ) → c ≤ m → m ≤ n → takenOut (J m) l ≡ x → after J p L m ≡ putIn p m x
-  unfolding after
+  after-high : (m x : ℕ) → c ≤ m → m ≤ n → takenOut (J m) l ≡ x → otherAfter J p L m ≡ putIn p m x
+  unfolding otherAfter
   after-high m x a b e = ap (putIn p m) (ap (takenOut (J m)) (one .high m a b) ∙ e)
 
   -- the block read is nowhere above it
@@ -72,14 +72,14 @@ module _ (J L : ℕ → ℕ) (p n j c l : ℕ) (pos : 0 < p) (fall : Falling J) 
       (taken-cases (J m) l)
 
   -- it goes one place down the card, and out of a card that it was the last of
-  pub pairs-lowered : (j ≡ 0) ⊎ (l < j) → p ≤ l → l < n → pairs (after J p L) n ≡ cond (eqb c l) (c + 1) c ∷ (l + 1) ∷ []
+  pub pairs-lowered : (j ≡ 0) ⊎ (l < j) → p ≤ l → l < n → pairs (otherAfter J p L) n ≡ cond (eqb c l) (c + 1) c ∷ (l + 1) ∷ []
   pairs-lowered h pl ln = by-eq c l
-      (λ e. let le : c + 1 ≤ n = omega arith in simp tests (pairs-one (after J p L) n (c + 1) (l + 1) (omega arith) le (omega arith)
+      (λ e. let le : c + 1 ≤ n = omega arith in simp tests (pairs-one (otherAfter J p L) n (c + 1) (l + 1) (omega arith) le (omega arith)
       (λ m lt. by-lt m c (λ below. after-low m below) (λ ge. here m ge (omega (arith, one .in-sizes)) ∙ put-out p m l pl (omega arith)))
       (λ m le hm. here m (omega arith) hm ∙ put-high p m l pl (omega arith))))
-      (λ ne. simp tests (pairs-one (after J p L) n c (l + 1) (one .some) (one .in-sizes) (omega arith)
+      (λ ne. simp tests (pairs-one (otherAfter J p L) n c (l + 1) (one .some) (one .in-sizes) (omega arith)
       after-low
       (λ m le hm. here m le hm ∙ put-high p m l pl (omega (arith, one .within, ne)))))
     where
-      here : (m : ℕ) → c ≤ m → m ≤ n → after J p L m ≡ putIn p m l
+      here : (m : ℕ) → c ≤ m → m ≤ n → otherAfter J p L m ≡ putIn p m l
       here m a b = after-high m l a b (taken-none h m b)

@@ -5,19 +5,19 @@ use mathlib.Core.List.{List}
 use Prim.Native.Nat.{ℕ, zero, suc, _+_, _-_, _≤_, _<_}
 use native.Mathlib.Omega.{arith}
 use lib.ListN.{getD}
-use Rattle.sizes.specs.Moves.{after}
+use Rattle.sizes.specs.Moves.{otherAfter}
 use Rattle.sizes.specs.Rows.{pairs}
 use Rattle.sizes.specs.Renewals.{Finds}
 use Rattle.sizes.specs.Sweeps.{Halfway}
 use Rattle.sizes.specs.declared.rows.Changes.{Changes}
-use Rattle.sizes.specs.declared.renewals.Read.{Read}
+use Rattle.sizes.specs.declared.renewals.RowRead.{RowRead}
 use Rattle.sizes.proofs.RowLaws.{after-none}
 use Rattle.sizes.proofs.RowSkips.{first-bound, keep-below}
 use Rattle.sizes.proofs.Halfways.{halfway-down}
 use Rattle.sizes.proofs.Ways.{way-below}
 use Rattle.sizes.proofs.RowSteps.{still-row}
 
-module _ (read : Read) (left : ℕ) (J : ℕ → ℕ) (L : ℕ → ℕ → ℕ) (list : List ℕ) (finds : Finds list read J L) (pos : 0 < read .p) (present : 0 < read .j) (first : getD list 0 0 ≡ read .j) where
+module _ (read : RowRead) (left : ℕ) (J : ℕ → ℕ) (L : ℕ → ℕ → ℕ) (list : List ℕ) (finds : Finds list read J L) (pos : 0 < read .p) (present : 0 < read .j) (first : getD list 0 0 ≡ read .j) where
   -- a block read whose first size is its place is at this place of each card that has it
   first-place : getD (pairs J (read .n)) 1 0 ≡ read .j
   first-place =
@@ -25,7 +25,7 @@ module _ (read : Read) (left : ℕ) (J : ℕ → ℕ) (L : ℕ → ℕ → ℕ) 
       omega (arith, b .2, b .3, finds .there, finds .falling .fits (getD (pairs J (read .n)) 0 0), finds .begins 0 (omega arith))
 
   -- and so it is above each block below it wherever that is
-  still-below : (k : ℕ) → read .j < k → read .p < k → (m : ℕ) → m ≤ read .n → after J (read .p) (L k) m ≡ L k m
+  still-below : (k : ℕ) → read .j < k → read .p < k → (m : ℕ) → m ≤ read .n → otherAfter J (read .p) (L k) m ≡ L k m
   still-below k jk pk =
       let good = finds .family .good k in
       ⊎-elim

@@ -11,8 +11,8 @@ use Rattle.sizes.specs.Tallies.{upTo}
 use Rattle.sizes.specs.TallySteps.{bumped, begun}
 
 -- the index of a tally of a size
-abbrev cell : (k s : ℕ) → ℕ
-cell k s = 6 * (s - 1) + k
+abbrev tallyIndex : (k s : ℕ) → ℕ
+tallyIndex k s = 6 * (s - 1) + k
 
 module _ (c : List ℕ) (n k s : ℕ) where
   pub length-bumped : length (bumped c n k s) ≡ length c
@@ -20,37 +20,37 @@ module _ (c : List ℕ) (n k s : ℕ) where
   length-bumped = by-lt n s (λ h. simp tests) (λ h. simp (tests, length-set))
 
   -- the cell that is not the tally's keeps its value
-  pub bumped-other : (x : ℕ) → (x ≡ cell k s → ⊥) → getD (bumped c n k s) x 0 ≡ getD c x 0
+  pub bumped-other : (x : ℕ) → (x ≡ tallyIndex k s → ⊥) → getD (bumped c n k s) x 0 ≡ getD c x 0
   unfolding bumped
   bumped-other x d =
-      by-lt n s (λ h. simp tests) (λ h. simp tests (getD-set-other c (cell k s) x (getD c (cell k s) 0 + 1) 0 d))
+      by-lt n s (λ h. simp tests) (λ h. simp tests (getD-set-other c (tallyIndex k s) x (getD c (tallyIndex k s) 0 + 1) 0 d))
 
   pub bumped-past : n < s → bumped c n k s ≡ c
   unfolding bumped
   bumped-past h = simp tests
 
-  pub bumped-set : s ≤ n → set c (cell k s) (getD c (cell k s) 0 + 1) ≡ bumped c n k s
+  pub bumped-set : s ≤ n → set c (tallyIndex k s) (getD c (tallyIndex k s) 0 + 1) ≡ bumped c n k s
   unfolding bumped
   bumped-set h = simp tests
 
   module _ (room : 6 * n ≤ length c) (some : 1 ≤ s) (low : k < 6) where
-    pub bumped-same : s ≤ n → getD (bumped c n k s) (cell k s) 0 ≡ getD c (cell k s) 0 + 1
+    pub bumped-same : s ≤ n → getD (bumped c n k s) (tallyIndex k s) 0 ≡ getD c (tallyIndex k s) 0 + 1
     unfolding bumped
-    bumped-same h = simp tests (getD-set-same c (cell k s) (getD c (cell k s) 0 + 1) 0 (omega arith))
+    bumped-same h = simp tests (getD-set-same c (tallyIndex k s) (getD c (tallyIndex k s) 0 + 1) 0 (omega arith))
 
     pub bumped-small : (x : ℕ) → getD (bumped c n k s) x 0 ≤ getD c x 0 + 1
     bumped-small x =
-        by-eq x (cell k s)
+        by-eq x (tallyIndex k s)
         (λ e. by-lt n s
         (λ h. rw bumped-past (omega arith))
         (λ h. rw e (omega (arith, bumped-same h))))
         (λ d. omega (arith, bumped-other x d))
 
     -- what a bump ensures, from the list alone
-    abbrev Grown : List ℕ → Type 0
-    Grown d = (d ≡ bumped c n k s) × ((x : ℕ) → getD d x 0 ≤ getD c x 0 + 1)
+    abbrev OneMore : List ℕ → Type 0
+    OneMore d = (d ≡ bumped c n k s) × ((x : ℕ) → getD d x 0 ≤ getD c x 0 + 1)
 
-    pub grown : (d : List ℕ) → d ≡ bumped c n k s → Grown d
+    pub grown : (d : List ℕ) → d ≡ bumped c n k s → OneMore d
     grown d e = (e, λ x. rw e (bumped-small x))
 
     pub bumped-kept : (x : ℕ) → 6 * n ≤ x → getD (bumped c n k s) x 0 ≡ getD c x 0
@@ -65,7 +65,7 @@ module _ (c : List ℕ) (n k s : ℕ) where
         (λ l. let sofar = simp tests at (upTo-same m (omega arith)) in
         by-eq s (suc m)
         (λ e. let reached : s ≤ suc m = omega arith in
-        let index : 6 * m + k ≡ cell k s = omega arith in
+        let index : 6 * m + k ≡ tallyIndex k s = omega arith in
         simp tests (rw index (omega (arith, bumped-same (omega arith)))))
         (λ d. let later : suc m < s = omega arith in
         simp tests (omega (arith, bumped-other (6 * m + k) (λ e. d (omega arith))))))

@@ -10,7 +10,7 @@ use Rattle.card.proofs.Tests.{by-lt, by-eq, tests}
 use Rattle.sizes.specs.Rows.{pairs}
 use Rattle.card.specs.Falling.{Falling}
 use Rattle.sizes.specs.Lists.{Holds}
-use Rattle.sizes.specs.TallySteps.{Passed, Begins}
+use Rattle.sizes.specs.TallySteps.{Passed, PresentFrom}
 
 module _ (J : ℕ → ℕ) where
   -- a size at which no stretch starts, and one at which one does
@@ -136,7 +136,7 @@ module _ (list : List ℕ) (J : ℕ → ℕ) (n most i : ℕ) (fall : Falling J)
       (λ d. old m h (omega arith) k)
 
   -- the first that is not lower begins at its first size
-  pub begins-at : getD list (2 * i + 1) 0 ≤ most → 0 < getD list (2 * i) 0 → Passed J n most i → Begins J n most (getD list (2 * i) 0)
+  pub begins-at : getD list (2 * i + 1) 0 ≤ most → 0 < getD list (2 * i) 0 → Passed J n most i → PresentFrom J n most (getD list (2 * i) 0)
   begins-at high some old =
       by-lt i (stretches J n)
       (λ l. record {
@@ -146,19 +146,19 @@ module _ (list : List ℕ) (J : ℕ → ℕ) (n most i : ℕ) (fall : Falling J)
       (λ l. absurd (omega (arith, holds (2 * i), pairs-end J n (2 * i) (omega arith))))
 
   -- past the last there is none
-  begins-past : stretches J n ≤ i → Passed J n most i → Begins J n most (n + 1)
+  begins-past : stretches J n ≤ i → Passed J n most i → PresentFrom J n most (n + 1)
   begins-past past old = record {
     before = λ m h k. old m h (omega (arith, stretches-rise J m n h));
     after = λ m h k. absurd (omega arith);
   }
 
-  pub begins-none : getD list (2 * i) 0 ≡ 0 → Passed J n most i → Begins J n most (n + 1)
+  pub begins-none : getD list (2 * i) 0 ≡ 0 → Passed J n most i → PresentFrom J n most (n + 1)
   begins-none e old =
       by-lt i (stretches J n)
       (λ l. absurd (omega (arith, firsts J n 0 i (omega arith) l .has (omega (arith, holds (2 * i))))))
       (λ l. begins-past l old)
 
-  pub begins-out : getD list (2 * i + 1) 0 ≡ 0 → Passed J n most i → Begins J n most (n + 1)
+  pub begins-out : getD list (2 * i + 1) 0 ≡ 0 → Passed J n most i → PresentFrom J n most (n + 1)
   begins-out e old =
       by-lt i (stretches J n)
       (λ l. absurd (omega (arith, places J fall n n i (omega arith) l, holds (2 * i + 1))))

@@ -11,7 +11,7 @@ use Rattle.card.proofs.Tests.{by-lt, by-eq, tests, bit}
 use Rattle.card.proofs.OutcomeCases.{by-outcome}
 use Rattle.card.specs.Falling.{Falling}
 use Rattle.sizes.specs.Tallies.{upTo}
-use Rattle.sizes.specs.TallySteps.{bumped, begun, Begins, ReadTallied}
+use Rattle.sizes.specs.TallySteps.{bumped, begun, PresentFrom, ReadTallied}
 use Rattle.sizes.proofs.TallyBumps.{length-bumped, bumped-other, bumped-small, bumped-kept, upTo-same, upTo-other}
 
 -- what the six sums of a size gain
@@ -76,7 +76,7 @@ off : (s m : ℕ) → m < s → bit (leb s m) ≡ 0
 off s m h = simp tests
 
 -- whether a tally that begins at the first size with a place up to `most`, and no sooner than a size q, counts at a size
-module _ (J : ℕ → ℕ) (n most first q t m : ℕ) (begins : Begins J n most first) (is : t ≡ max first q) (h : m ≤ n) where
+module _ (J : ℕ → ℕ) (n most first q t m : ℕ) (begins : PresentFrom J n most first) (is : t ≡ max first q) (h : m ≤ n) where
   counts : 0 < J m → J m ≤ most → q ≤ m → bit (leb t m) ≡ 1
   counts a b d =
       by-lt m first
@@ -91,7 +91,7 @@ module _ (J : ℕ → ℕ) (n most first q t m : ℕ) (begins : Begins J n most 
 
 -- what the four sizes at which a read's tallies begin say at a size: it is one of the six outcomes
 module _ (J : ℕ → ℕ) (n most first from below p m : ℕ) (fall : Falling J) (wide : n ≤ most) (least : 1 ≤ p) (h : m ≤ n)
-    (present : Begins J n most first) (reached : Begins J n p from) (above : Begins J n (p - 1) below) where
+    (present : PresentFrom J n most first) (reached : PresentFrom J n p from) (above : PresentFrom J n (p - 1) below) where
   here : 0 < J m → bit (leb first m) ≡ 1
   here a = counts J n most first 0 first m present (omega arith) h a (omega (arith, fall .fits m)) (omega arith)
 
@@ -212,7 +212,7 @@ module _ {c b s d : List ℕ} {n first t u p : ℕ} (steps : Steps c b s d n fir
       (λ l opened. all-small 3 5 first p (omega arith) (omega arith) opened (λ e. omega arith) (λ e. omega arith) (λ e. omega arith) (λ e. omega arith) (λ e. omega arith) q)
 
   -- the sums of a size after the read
-  pub read-sums : (J : ℕ → ℕ) (most from below : ℕ) → Falling J → n ≤ most → Begins J n most first → Begins J n p from → Begins J n (p - 1) below
+  pub read-sums : (J : ℕ → ℕ) (most from below : ℕ) → Falling J → n ≤ most → PresentFrom J n most first → PresentFrom J n p from → PresentFrom J n (p - 1) below
       → t ≡ max from p → u ≡ max below p
       → ReadTallied c d J n p
   read-sums J most from below fall wide present reached above is-t is-u m reads up same down hitBypass insert missBypass least-m h sums =

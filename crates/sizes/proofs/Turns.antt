@@ -6,17 +6,17 @@ use native.Mathlib.Omega.{arith}
 use lib.ListN.{length}
 use Rattle.sizes.specs.Moves.{Family}
 use Rattle.sizes.specs.Renewals.{Fits, Ready, Finds, Renewed, Renews, RowAt, Grown}
-use Rattle.sizes.specs.Sweeps.{Found, Halfway, Leads, AllRenewed, Fresh}
+use Rattle.sizes.specs.Sweeps.{FoundInRows, Halfway, Leads, AllRenewed, Fresh}
 use Rattle.sizes.specs.declared.rows.Changes.{Changes}
-use Rattle.sizes.specs.declared.renewals.Read.{Read}
+use Rattle.sizes.specs.declared.renewals.RowRead.{RowRead}
 use Rattle.sizes.proofs.Halfways.{halfway-none, halfway-all, halfway-up, halfway-down}
 
 -- what a read finds, as its sweeps see it
-pub found-finds : (read : Read) (list area : List ℕ) (J : ℕ → ℕ) (L : ℕ → ℕ → ℕ) → Found list area (read .n) (read .j) J L → Finds list read J L
+pub found-finds : (read : RowRead) (list area : List ℕ) (J : ℕ → ℕ) (L : ℕ → ℕ → ℕ) → FoundInRows list area (read .n) (read .j) J L → Finds list read J L
 found-finds read list area J L f = record { falling = f .falling; family = f .family; there = f .there; begins = λ q h. f .listed q }
 
 -- all rows from nothing done on, with the last one that is left
-pub leads-all : (list : List ℕ) (read : Read) (x : ℕ) (changes sum next : Changes) (area mid last : List ℕ) → 0 < read .p → 0 < read .n → Fresh changes → x ≡ min (read .p) (read .n)
+pub leads-all : (list : List ℕ) (read : RowRead) (x : ℕ) (changes sum next : Changes) (area mid last : List ℕ) → 0 < read .p → 0 < read .n → Fresh changes → x ≡ min (read .p) (read .n)
     → Leads list read 0 (read .n) changes area (x - 1) x sum mid
     → ((J : ℕ → ℕ) (L : ℕ → ℕ → ℕ) → Family L (read .n) → RowAt mid read (min (read .p) (read .n)) (L (min (read .p) (read .n))) → Renewed read J L (min (read .p) (read .n)) sum next mid last)
     → AllRenewed list read (changes .lost) next area last
@@ -27,7 +27,7 @@ leads-all list read x changes sum next area mid last pos some fresh e leads own 
     (halfway-up read (changes .lost) J L k sum next mid last pos (omega arith) (omega arith) (finds .family) (own J L (finds .family) (all .old k (omega arith) (omega arith))) k (omega arith) all)
 
 -- an area of the same length fits
-pub fits-kept : {read : Read} {a b : ℕ} → b ≡ a → Fits read a → Fits read b
+pub fits-kept : {read : RowRead} {a b : ℕ} → b ≡ a → Fits read a → Fits read b
 fits-kept e fits = rw e fits
 
 -- the lengths stay, and the changes grow with the turns
@@ -53,7 +53,7 @@ module _ {turns : ℕ} {area₀ scratch₀ area scratch : List ℕ} {sum₀ sum 
     grown = (omega (arith, turned .grown .0, turn .grown .0), omega (arith, turned .grown .1, turn .grown .1));
   }
 
-  pub turned-ready : {read : Read} (list : List ℕ) → turns ≤ read .n → Ready read area₀ list scratch₀ sum₀ (2 ^ 40) → Ready read area list scratch sum (2 ^ 48)
+  pub turned-ready : {read : RowRead} (list : List ℕ) → turns ≤ read .n → Ready read area₀ list scratch₀ sum₀ (2 ^ 40) → Ready read area list scratch sum (2 ^ 48)
   turned-ready list few ready =
       (fits-kept (turned .room) (ready .0), ready .1, omega (arith, turned .spare, ready .2), (omega (arith, ready .0 .narrow, turned .grown .0, ready .3 .0), omega (arith, ready .0 .narrow, turned .grown .1, ready .3 .1)))
 
@@ -61,13 +61,13 @@ module _ {turns : ℕ} {area₀ scratch₀ area scratch : List ℕ} {sum₀ sum 
   turned-all few = (omega (arith, turned .grown .0), omega (arith, turned .grown .1))
 
 -- a sweep from row k₀ on to the one before end, with the rows past b done: row k is next
-pub record Rising (list : List ℕ) (read : Read) (k₀ end b : ℕ) (area₀ scratch₀ : List ℕ) (sum₀ : Changes) (area scratch : List ℕ) (sum : Changes) (k : ℕ) : Type 0 where
+pub record Rising (list : List ℕ) (read : RowRead) (k₀ end b : ℕ) (area₀ scratch₀ : List ℕ) (sum₀ : Changes) (area scratch : List ℕ) (sum : Changes) (k : ℕ) : Type 0 where
   pub from : k₀ ≤ k
   pub to : k ≤ end
   pub turned : Turned (k - k₀) area₀ scratch₀ area scratch sum₀ sum
   pub leads : Leads list read (k₀ - 1) b sum₀ area₀ (k - 1) b sum area
 
-pub rising-none : (list : List ℕ) (read : Read) (k₀ end b : ℕ) (area scratch : List ℕ) (sum : Changes) → k₀ ≤ end → Rising list read k₀ end b area scratch sum area scratch sum k₀
+pub rising-none : (list : List ℕ) (read : RowRead) (k₀ end b : ℕ) (area scratch : List ℕ) (sum : Changes) → k₀ ≤ end → Rising list read k₀ end b area scratch sum area scratch sum k₀
 rising-none list read k₀ end b area scratch sum le = record {
   from = omega arith;
   to = le;
@@ -75,7 +75,7 @@ rising-none list read k₀ end b area scratch sum le = record {
   leads = λ left J L finds half. half;
 }
 
-module _ {list : List ℕ} {read : Read} {k₀ end b : ℕ} {area₀ scratch₀ area scratch : List ℕ} {sum₀ sum : Changes} {k : ℕ} (rising : Rising list read k₀ end b area₀ scratch₀ sum₀ area scratch sum k) where
+module _ {list : List ℕ} {read : RowRead} {k₀ end b : ℕ} {area₀ scratch₀ area scratch : List ℕ} {sum₀ sum : Changes} {k : ℕ} (rising : Rising list read k₀ end b area₀ scratch₀ sum₀ area scratch sum k) where
   pub rising-next : (s : ℕ) (next : Changes) (last copy : List ℕ) → 0 < read .p → 0 < k → k ≤ read .n → k < end → k ≤ s → s ≤ b → Turn area scratch sum last copy next → Renews list read s k sum next area last
       → Rising list read k₀ end b area₀ scratch₀ sum₀ last copy next (k + 1)
   rising-next s next last copy pos some le lt ks sb turn renews = record {
@@ -95,13 +95,13 @@ module _ {list : List ℕ} {read : Read} {k₀ end b : ℕ} {area₀ scratch₀ 
       (turned-all (rising .turned) (omega (arith, rising .to)), rw e at (rising .leads))
 
 -- a sweep from row k₀ back to the one after end, with up to top rows done: row k is next
-pub record Sinking (list : List ℕ) (read : Read) (k₀ end top : ℕ) (area₀ scratch₀ : List ℕ) (sum₀ : Changes) (area scratch : List ℕ) (sum : Changes) (k : ℕ) : Type 0 where
+pub record Sinking (list : List ℕ) (read : RowRead) (k₀ end top : ℕ) (area₀ scratch₀ : List ℕ) (sum₀ : Changes) (area scratch : List ℕ) (sum : Changes) (k : ℕ) : Type 0 where
   pub from : k ≤ k₀
   pub to : end ≤ k
   pub turned : Turned (k₀ - k) area₀ scratch₀ area scratch sum₀ sum
   pub leads : (a : ℕ) → a ≤ top → Leads list read a k₀ sum₀ area₀ a k sum area
 
-pub sinking-none : (list : List ℕ) (read : Read) (k₀ end top : ℕ) (area scratch : List ℕ) (sum : Changes) → end ≤ k₀ → Sinking list read k₀ end top area scratch sum area scratch sum k₀
+pub sinking-none : (list : List ℕ) (read : RowRead) (k₀ end top : ℕ) (area scratch : List ℕ) (sum : Changes) → end ≤ k₀ → Sinking list read k₀ end top area scratch sum area scratch sum k₀
 sinking-none list read k₀ end top area scratch sum le = record {
   from = omega arith;
   to = le;
@@ -109,7 +109,7 @@ sinking-none list read k₀ end top area scratch sum le = record {
   leads = λ a h left J L finds half. half;
 }
 
-module _ {list : List ℕ} {read : Read} {k₀ end top : ℕ} {area₀ scratch₀ area scratch : List ℕ} {sum₀ sum : Changes} {k : ℕ} (sinking : Sinking list read k₀ end top area₀ scratch₀ sum₀ area scratch sum k) where
+module _ {list : List ℕ} {read : RowRead} {k₀ end top : ℕ} {area₀ scratch₀ area scratch : List ℕ} {sum₀ sum : Changes} {k : ℕ} (sinking : Sinking list read k₀ end top area₀ scratch₀ sum₀ area scratch sum k) where
   pub sinking-next : (s : ℕ) (next : Changes) (last copy : List ℕ) → 0 < read .p → k ≤ read .n → end < k → top < s → s ≤ k → Turn area scratch sum last copy next → Renews list read s k sum next area last
       → Sinking list read k₀ end top area₀ scratch₀ sum₀ last copy next (k - 1)
   sinking-next s next last copy pos le lt top-s sk turn renews = record {

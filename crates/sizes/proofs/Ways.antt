@@ -5,11 +5,11 @@ use Prim.Native.Nat.{ℕ, _+_, _-_, _*_, _≤_, _<_}
 use native.Mathlib.Omega.{arith}
 use Rattle.sizes.specs.Moves.{sourceOf}
 use Rattle.sizes.specs.Renewals.{Fits}
-use Rattle.sizes.specs.declared.renewals.Read.{Read}
+use Rattle.sizes.specs.declared.renewals.RowRead.{RowRead}
 use Rattle.sizes.proofs.RowLaws.{base-le, next-base, source-above, source-below, source-down, source-up}
 
 -- the row of a place lies in the area, and two numbers fit in it
-pub row-room : (read : Read) (area k : ℕ) → Fits read area → 0 < k → k ≤ read .n → (2 ≤ read .width) × (read .width < 65536) × ((k - 1) * read .width + read .width ≤ area)
+pub row-room : (read : RowRead) (area k : ℕ) → Fits read area → 0 < k → k ≤ read .n → (2 ≤ read .width) × (read .width < 65536) × ((k - 1) * read .width + read .width ≤ area)
 row-room read area k fits some le =
     (omega (arith, fits .wide, fits .some), omega (arith, fits .wide, fits .narrow), omega (arith, base-le (k - 1) (read .n) (read .width) (omega arith), fits .room))
 
@@ -18,7 +18,7 @@ pub before-base : (k w : ℕ) → 0 < k → k * w ≡ (k - 1) * w + w
 before-base k w some = let e : k ≡ k - 1 + 1 = omega arith in ap (λ (z : ℕ). z * w) e ∙ next-base (k - 1) w
 
 -- what comes to place k, which is not the block read, is at place s; their rows are from two indices on
-pub record Way (read : Read) (s k from at : ℕ) : Type 0 where
+pub record Way (read : RowRead) (s k from at : ℕ) : Type 0 where
   pub low : 0 < s
   pub within : s ≤ read .n
   pub to-low : 0 < k
@@ -28,13 +28,13 @@ pub record Way (read : Read) (s k from at : ℕ) : Type 0 where
   pub from-is : from ≡ (s - 1) * read .width
   pub at-is : at ≡ (k - 1) * read .width
 
-pub both-rooms : {read : Read} {s k from at : ℕ} (area : ℕ) → Fits read area → Way read s k from at → (2 ≤ read .width) × (from + read .width ≤ area) × (at + read .width ≤ area)
+pub both-rooms : {read : RowRead} {s k from at : ℕ} (area : ℕ) → Fits read area → Way read s k from at → (2 ≤ read .width) × (from + read .width ≤ area) × (at + read .width ≤ area)
 both-rooms {read} {s} {k} area fits way =
     let source = row-room read area s fits (way .low) (way .within) in
     let place = row-room read area k fits (way .to-low) (way .to-within) in
     (source .0, omega (arith, source .2, way .from-is), omega (arith, place .2, way .at-is))
 
-module _ (read : Read) (k : ℕ) where
+module _ (read : RowRead) (k : ℕ) where
   -- a row keeps its block
   way-still : 0 < k → k ≤ read .n → k ≢ read .p → sourceOf (read .p) (read .j) k ≡ k → Way read k k ((k - 1) * read .width) ((k - 1) * read .width)
   way-still some le ne source = record {

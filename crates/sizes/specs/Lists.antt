@@ -34,6 +34,6 @@ abbrev pub Level : (ℕ → ℕ) → ℕ → ℕ → Type 0
 Level R s e = (m : ℕ) → s ≤ m → m ≤ e → R m ≡ R s
 
 -- the first q elements are the stretches of R over sizes 1 to t
-pub record Written (out : List ℕ) (q : ℕ) (R : ℕ → ℕ) (t : ℕ) : Type 0 where
+pub record ListedUpTo (out : List ℕ) (q : ℕ) (R : ℕ → ℕ) (t : ℕ) : Type 0 where
   pub count : q ≡ length (pairs R t)
   pub same : (x : ℕ) → x < q → getD out x 0 ≡ getD (pairs R t) x 0

@@ -15,8 +15,8 @@ abbrev pub putIn : (p m l : ℕ) → ℕ
 putIn p m l = cond (ltb m p) l (cond (ltb l p) l (cond (ltb l m) (l + 1) 0))
 
 -- the places of another block after a read: J are those of the block that is read, L the other's
-unfoldable pub after : (ℕ → ℕ) → ℕ → (ℕ → ℕ) → ℕ → ℕ
-after J p L m = putIn p m (takenOut (J m) (L m))
+unfoldable pub otherAfter : (ℕ → ℕ) → ℕ → (ℕ → ℕ) → ℕ → ℕ
+otherAfter J p L m = putIn p m (takenOut (J m) (L m))
 
 -- R is S one place nearer the top of every card that has it, where it is nowhere at the top
 abbrev pub Raised : (R S : ℕ → ℕ) → ℕ → Type 0
@@ -28,10 +28,10 @@ own p m = cond (leb p m) p 0
 
 -- the old place, in the largest card, of what stands at place k after the read of a block at j
 unfoldable pub sourceOf : (p j k : ℕ) → ℕ
-sourceOf p j k = bumped j (cond (ltb p k) (k - 1) k)
+sourceOf p j k = putBack j (cond (ltb p k) (k - 1) k)
   where
-    bumped : ℕ → ℕ → ℕ
-    bumped j x = cond (eqb j 0) x (cond (ltb x j) x (x + 1))
+    putBack : ℕ → ℕ → ℕ
+    putBack j x = cond (eqb j 0) x (cond (ltb x j) x (x + 1))
 
 -- the blocks of a card by their places: each one's places at every size, with no block at place 0 or past the last
 pub record Family (L : ℕ → ℕ → ℕ) (n : ℕ) : Type 0 where
@@ -42,4 +42,4 @@ pub record Family (L : ℕ → ℕ → ℕ) (n : ℕ) : Type 0 where
 
 -- the places of what stands at place k after the read
 unfoldable pub newOf : (ℕ → ℕ) → (p j : ℕ) → (ℕ → ℕ → ℕ) → ℕ → ℕ → ℕ
-newOf J p j L k = cond (eqb k p) (own p) (after J p (L (sourceOf p j k)))
+newOf J p j L k = cond (eqb k p) (own p) (otherAfter J p (L (sourceOf p j k)))

@@ -8,11 +8,11 @@ use lib.Dec.{eqb}
 use lib.ListN.{getD, length}
 use Rattle.card.specs.Stretches.{stretches}
 use Rattle.card.specs.Falling.{Falling}
-use Rattle.sizes.specs.Moves.{after, Family, sourceOf, newOf}
+use Rattle.sizes.specs.Moves.{otherAfter, Family, sourceOf, newOf}
 use Rattle.sizes.specs.Rows.{pairs, rowLength, Row}
 use Rattle.sizes.specs.Lists.{Begins}
 use Rattle.sizes.specs.declared.rows.Changes.{Changes}
-use Rattle.sizes.specs.declared.renewals.Read.{Read}
+use Rattle.sizes.specs.declared.renewals.RowRead.{RowRead}
 
 -- an area is as it was outside the part from a on, w long
 pub record Kept (area last : List ℕ) (a w : ℕ) : Type 0 where
@@ -24,7 +24,7 @@ pub record Kept (area last : List ℕ) (a w : ℕ) : Type 0 where
 abbrev pub Carried : (entry exit : List ℕ) (from at width n p : ℕ) (J S T : ℕ → ℕ) → Type 0
 Carried entry exit from at width n p J S T =
     Row entry from width (pairs S n) → Row entry at width (pairs T n)
-    → Row exit at width (pairs (after J p S) n) × (stretches (after J p S) n ≡ stretches S n)
+    → Row exit at width (pairs (otherAfter J p S) n) × (stretches (otherAfter J p S) n ≡ stretches S n)
 
 -- so it does whatever block the row belongs to, one of the largest card or one that is nowhere
 abbrev pub CarriedNone : (entry exit : List ℕ) (from at width : ℕ) → Type 0
@@ -36,7 +36,7 @@ CarriedNone entry exit from at width =
 abbrev pub Merged : (list entry exit : List ℕ) (from at width n p : ℕ) → Changes → Type 0
 Merged list entry exit from at width n p more =
     (J S T : ℕ → ℕ) → Falling J → Falling S → Falling T → Begins list J n → Row entry from width (pairs S n) → Row entry at width (pairs T n)
-    → Row exit at width (pairs (after J p S) n) × (more .gained ≡ stretches (after J p S) n) × (more .lost ≡ stretches S n) × (more .longest ≡ more .gained)
+    → Row exit at width (pairs (otherAfter J p S) n) × (more .gained ≡ stretches (otherAfter J p S) n) × (more .lost ≡ stretches S n) × (more .longest ≡ more .gained)
 
 -- changes and more of them together
 abbrev pub Together : (changes more both : Changes) → Type 0
@@ -44,14 +44,14 @@ Together changes more both =
     (both .gained ≡ changes .gained + more .gained) × (both .lost ≡ changes .lost + more .lost) × (both .longest ≡ max (changes .longest) (more .longest))
 
 -- changes are small enough to add to, and grow by a bounded number
-abbrev pub Small : Changes → ℕ → Type 0
-Small changes m = (changes .gained < m) × (changes .lost < m)
+abbrev pub ChangesBelow : Changes → ℕ → Type 0
+ChangesBelow changes m = (changes .gained < m) × (changes .lost < m)
 
 abbrev pub Grown : (changes more : Changes) → ℕ → Type 0
 Grown changes more m = (more .gained ≤ changes .gained + m) × (more .lost ≤ changes .lost + m)
 
 -- the rows are in the area, and their numbers in 16 bits
-pub record Fits (read : Read) (area : ℕ) : Type 0 where
+pub record Fits (read : RowRead) (area : ℕ) : Type 0 where
   pub read-at : 0 < read .p
   pub some : 0 < read .n
   pub narrow : read .n < 65535
@@ -59,11 +59,11 @@ pub record Fits (read : Read) (area : ℕ) : Type 0 where
   pub room : read .n * read .width ≤ area
 
 -- what every row is renewed with: an area with all rows, the list of the block read, room for another list, and changes below m
-abbrev pub Ready : Read → (area list scratch : List ℕ) → Changes → (m : ℕ) → Type 0
-Ready read area list scratch changes m = Fits read (length area) × (2 ≤ length list) × (read .width < length scratch) × Small changes m
+abbrev pub Ready : RowRead → (area list scratch : List ℕ) → Changes → (m : ℕ) → Type 0
+Ready read area list scratch changes m = Fits read (length area) × (2 ≤ length list) × (read .width < length scratch) × ChangesBelow changes m
 
 -- the row of a place
-abbrev pub RowAt : (area : List ℕ) → Read → ℕ → (ℕ → ℕ) → Type 0
+abbrev pub RowAt : (area : List ℕ) → RowRead → ℕ → (ℕ → ℕ) → Type 0
 RowAt area read k R = Row area ((k - 1) * read .width) (read .width) (pairs R (read .n))
 
 -- of numbers of the old places, that of what comes to place k, which is none for the block read
@@ -71,21 +71,21 @@ unfoldable pub movedOf : (ℕ → ℕ) → (p j k : ℕ) → ℕ
 movedOf count p j k = cond (eqb k p) 0 (count (sourceOf p j k))
 
 -- how many stretches come to place k, and how many stand there after the read
-abbrev pub comes : Read → (L : ℕ → ℕ → ℕ) → ℕ → ℕ
+abbrev pub comes : RowRead → (L : ℕ → ℕ → ℕ) → ℕ → ℕ
 comes read L = movedOf (λ i. stretches (L i) (read .n)) (read .p) (read .j)
 
-abbrev pub stands : Read → (J : ℕ → ℕ) (L : ℕ → ℕ → ℕ) → ℕ → ℕ
+abbrev pub stands : RowRead → (J : ℕ → ℕ) (L : ℕ → ℕ → ℕ) → ℕ → ℕ
 stands read J L k = stretches (newOf J (read .p) (read .j) L k) (read .n)
 
 -- the places J of the block read, which is at place j of the largest card, and those of all blocks of the card
-pub record Finds (list : List ℕ) (read : Read) (J : ℕ → ℕ) (L : ℕ → ℕ → ℕ) : Type 0 where
+pub record Finds (list : List ℕ) (read : RowRead) (J : ℕ → ℕ) (L : ℕ → ℕ → ℕ) : Type 0 where
   pub falling : Falling J
   pub family : Family L (read .n)
   pub there : read .j ≡ J (read .n)
   pub begins : Begins list J (read .n)
 
 -- the row of place k, and no other, becomes what the read leaves there, and the changes count what it gained and lost
-pub record Renewed (read : Read) (J : ℕ → ℕ) (L : ℕ → ℕ → ℕ) (k : ℕ) (changes next : Changes) (area last : List ℕ) : Type 0 where
+pub record Renewed (read : RowRead) (J : ℕ → ℕ) (L : ℕ → ℕ → ℕ) (k : ℕ) (changes next : Changes) (area last : List ℕ) : Type 0 where
   pub kept : Kept area last ((k - 1) * read .width) (read .width)
   pub row : RowAt last read k (newOf J (read .p) (read .j) L k)
   pub more : Changes
@@ -94,6 +94,6 @@ pub record Renewed (read : Read) (J : ℕ → ℕ) (L : ℕ → ℕ → ℕ) (k 
   pub together : Together changes more next
 
 -- so it does whatever the read finds, if the list that comes to it is still at place s
-abbrev pub Renews : (list : List ℕ) → Read → (s k : ℕ) (changes next : Changes) (area last : List ℕ) → Type 0
+abbrev pub Renews : (list : List ℕ) → RowRead → (s k : ℕ) (changes next : Changes) (area last : List ℕ) → Type 0
 Renews list read s k changes next area last =
     (J : ℕ → ℕ) (L : ℕ → ℕ → ℕ) → Finds list read J L → RowAt area read s (L s) → RowAt area read k (L k) → Renewed read J L k changes next area last

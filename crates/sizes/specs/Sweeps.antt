@@ -13,7 +13,7 @@ use Rattle.sizes.specs.Totals.{sumTo, mostTo}
 use Rattle.sizes.specs.Lists.{Holds}
 use Rattle.sizes.specs.Renewals.{RowAt, Finds, comes, stands, movedOf}
 use Rattle.sizes.specs.declared.rows.Changes.{Changes}
-use Rattle.sizes.specs.declared.renewals.Read.{Read}
+use Rattle.sizes.specs.declared.renewals.RowRead.{RowRead}
 
 -- the rows of an area hold the lists of all blocks
 abbrev pub RowsOf : (area : List ℕ) (width n : ℕ) → (ℕ → ℕ → ℕ) → Type 0
@@ -24,7 +24,7 @@ abbrev pub Bound : (n : ℕ) (L : ℕ → ℕ → ℕ) → ℕ → Type 0
 Bound n L B = (k : ℕ) → 1 ≤ k → k ≤ n → stretches (L k) n ≤ B
 
 -- the first a rows and those past the b-th are renewed, the others are not yet, and the changes count what is done
-pub record Halfway (read : Read) (left a b : ℕ) (changes : Changes) (area : List ℕ) (J : ℕ → ℕ) (L : ℕ → ℕ → ℕ) : Type 0 where
+pub record Halfway (read : RowRead) (left a b : ℕ) (changes : Changes) (area : List ℕ) (J : ℕ → ℕ) (L : ℕ → ℕ → ℕ) : Type 0 where
   pub old : (k : ℕ) → a < k → k ≤ b → RowAt area read k (L k)
   pub new : (k : ℕ) → 1 ≤ k → k ≤ read .n → (k ≤ a) ⊎ (b < k) → RowAt area read k (newOf J (read .p) (read .j) L k)
   pub sums : changes .gained + left + sumTo (read .n) (comes read L) + sumTo a (comes read L) + sumTo b (stands read J L)
@@ -33,7 +33,7 @@ pub record Halfway (read : Read) (left a b : ℕ) (changes : Changes) (area : Li
   pub reached : (B : ℕ) → Bound (read .n) L B → changes .longest ≤ max B (mostTo (read .n) (stands read J L))
 
 -- whatever the read finds, rows that are renewed up to a and past b become rows that are renewed up to c and past d
-abbrev pub Leads : (list : List ℕ) → Read → (a b : ℕ) → Changes → List ℕ → (c d : ℕ) → Changes → List ℕ → Type 0
+abbrev pub Leads : (list : List ℕ) → RowRead → (a b : ℕ) → Changes → List ℕ → (c d : ℕ) → Changes → List ℕ → Type 0
 Leads list read a b changes area c d next last =
     (left : ℕ) (J : ℕ → ℕ) (L : ℕ → ℕ → ℕ) → Finds list read J L → Halfway read left a b changes area J L → Halfway read left c d next last J L
 
@@ -48,7 +48,7 @@ AllCounted n p j leaving gained lost longest J L =
     × ((B : ℕ) → Bound n L B → max B longest ≡ max B (mostTo n (λ k. stretches (newOf J p j L k) n)))
 
 -- whatever the read finds, all rows are renewed, from changes that count nothing yet but the stretches that leave
-abbrev pub AllRenewed : (list : List ℕ) → Read → (leaving : ℕ) → Changes → (area last : List ℕ) → Type 0
+abbrev pub AllRenewed : (list : List ℕ) → RowRead → (leaving : ℕ) → Changes → (area last : List ℕ) → Type 0
 AllRenewed list read leaving changes area last =
     (J : ℕ → ℕ) (L : ℕ → ℕ → ℕ) → Finds list read J L → RowsOf area (read .width) (read .n) L
     → RowsOf last (read .width) (read .n) (newOf J (read .p) (read .j) L) × AllCounted (read .n) (read .p) (read .j) leaving (changes .gained) (changes .lost) (changes .longest) J L
@@ -58,7 +58,7 @@ abbrev pub Fresh : Changes → Type 0
 Fresh changes = (changes .gained ≡ 0) × (changes .lost < 2 ^ 32) × (changes .longest ≡ 0)
 
 -- what a read finds: the places of the block read, which is at place j of the largest card, in the list, and those of all blocks of the card in the rows
-pub record Found (list area : List ℕ) (n j : ℕ) (J : ℕ → ℕ) (L : ℕ → ℕ → ℕ) : Type 0 where
+pub record FoundInRows (list area : List ℕ) (n j : ℕ) (J : ℕ → ℕ) (L : ℕ → ℕ → ℕ) : Type 0 where
   pub falling : Falling J
   pub family : Family L n
   pub there : j ≡ J n

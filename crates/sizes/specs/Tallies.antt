@@ -15,7 +15,7 @@ upTo counts k zero = 0
 upTo counts k (suc m) = upTo counts k m + getD counts (6 * m + k) 0
 
 -- the six sums of a size against its six counts
-pub record Sums (counts : List ℕ) (m reads up same down hitBypass insert missBypass : ℕ) : Type 0 where
+pub record TallySums (counts : List ℕ) (m reads up same down hitBypass insert missBypass : ℕ) : Type 0 where
   pub ups : upTo counts 1 m + up ≡ upTo counts 0 m + upTo counts 5 m
   pub sames : upTo counts 2 m + same ≡ upTo counts 1 m
   pub downs : upTo counts 2 m ≡ down
@@ -27,7 +27,7 @@ pub record Sums (counts : List ℕ) (m reads up same down hitBypass insert missB
 abbrev pub Tallied : ℕ → List Read → List ℕ → Type 0
 Tallied n rs counts =
     (m : ℕ) → 1 ≤ m → m ≤ n
-    → Sums counts m (length rs) (count m 0 rs) (count m 1 rs) (count m 2 rs) (count m 3 rs) (count m 4 rs) (count m 5 rs)
+    → TallySums counts m (length rs) (count m 0 rs) (count m 1 rs) (count m 2 rs) (count m 3 rs) (count m 4 rs) (count m 5 rs)
 
 -- 1 where an outcome is the given one
 abbrev pub isOutcome : (o m j p : ℕ) → ℕ

@@ -6,7 +6,7 @@ use mathlib.Core.List.{List}
 use lib.Dec.{ltb, leb}
 use lib.ListN.{getD, set}
 use Rattle.card.specs.Stretches.{stretches}
-use Rattle.sizes.specs.Tallies.{Sums, isOutcome}
+use Rattle.sizes.specs.Tallies.{TallySums, isOutcome}
 
 -- one more in tally k of size m, where m is a size
 unfoldable pub bumped : List ℕ → (n k m : ℕ) → List ℕ
@@ -22,7 +22,7 @@ abbrev pub Passed : (ℕ → ℕ) → (n most i : ℕ) → Type 0
 Passed J n most i = (m : ℕ) → m ≤ n → stretches J m ≤ i → J m ≤ most → J m ≡ 0
 
 -- the block is present at a place up to `most` from a size on, and at no size before
-pub record Begins (J : ℕ → ℕ) (n most first : ℕ) : Type 0 where
+pub record PresentFrom (J : ℕ → ℕ) (n most first : ℕ) : Type 0 where
   pub before : (m : ℕ) → m ≤ n → m < first → J m ≤ most → J m ≡ 0
   pub after : (m : ℕ) → m ≤ n → first ≤ m → (0 < J m) × (J m ≤ most)
 
@@ -30,20 +30,20 @@ pub record Begins (J : ℕ → ℕ) (n most first : ℕ) : Type 0 where
 abbrev pub ReadTallied : (entry exit : List ℕ) (J : ℕ → ℕ) (n p : ℕ) → Type 0
 ReadTallied entry exit J n p =
     (m reads up same down hitBypass insert missBypass : ℕ) → 1 ≤ m → m ≤ n
-    → Sums entry m reads up same down hitBypass insert missBypass
-    → Sums exit m (reads + 1) (up + isOutcome 0 m (J m) p) (same + isOutcome 1 m (J m) p) (down + isOutcome 2 m (J m) p) (hitBypass + isOutcome 3 m (J m) p) (insert + isOutcome 4 m (J m) p) (missBypass + isOutcome 5 m (J m) p)
+    → TallySums entry m reads up same down hitBypass insert missBypass
+    → TallySums exit m (reads + 1) (up + isOutcome 0 m (J m) p) (same + isOutcome 1 m (J m) p) (down + isOutcome 2 m (J m) p) (hitBypass + isOutcome 3 m (J m) p) (insert + isOutcome 4 m (J m) p) (missBypass + isOutcome 5 m (J m) p)
 
 -- the sums of a size are those of some six counts
 abbrev pub Summing : List ℕ → (m reads : ℕ) → Type 0
 Summing counts m reads =
     (up : ℕ) × (same : ℕ) × (down : ℕ) × (hitBypass : ℕ) × (insert : ℕ) × (missBypass : ℕ)
-    × Sums counts m reads up same down hitBypass insert missBypass
+    × TallySums counts m reads up same down hitBypass insert missBypass
 
 -- each size's six counts stand where its tallies stood
 abbrev pub Finished : (entry exit : List ℕ) (n reads : ℕ) → Type 0
 Finished entry exit n reads =
     (m : ℕ) → 1 ≤ m → m ≤ n
-    → Sums entry m reads (getD exit (6 * (m - 1)) 0) (getD exit (6 * (m - 1) + 1) 0) (getD exit (6 * (m - 1) + 2) 0) (getD exit (6 * (m - 1) + 3) 0) (getD exit (6 * (m - 1) + 4) 0) (getD exit (6 * (m - 1) + 5) 0)
+    → TallySums entry m reads (getD exit (6 * (m - 1)) 0) (getD exit (6 * (m - 1) + 1) 0) (getD exit (6 * (m - 1) + 2) 0) (getD exit (6 * (m - 1) + 3) 0) (getD exit (6 * (m - 1) + 4) 0) (getD exit (6 * (m - 1) + 5) 0)
 
 -- six sums with the six tallies from an index on: what they are, and that they are small
 pub record More (counts : List ℕ) (at s₀ s₁ s₂ s₃ s₄ s₅ r₀ r₁ r₂ r₃ r₄ r₅ : ℕ) : Type 0 where
@@ -54,7 +54,7 @@ pub record More (counts : List ℕ) (at s₀ s₁ s₂ s₃ s₄ s₅ r₀ r₁ 
   pub fourth : r₄ ≡ s₄ + getD counts (at + 4) 0
   pub fifth : r₅ ≡ s₅ + getD counts (at + 5) 0
 
-pub record Small (counts : List ℕ) (at s₀ s₁ s₂ s₃ s₄ s₅ : ℕ) : Type 0 where
+pub record SmallSums (counts : List ℕ) (at s₀ s₁ s₂ s₃ s₄ s₅ : ℕ) : Type 0 where
   pub zeroth : s₀ + getD counts at 0 < 2 ^ 63
   pub first : s₁ + getD counts (at + 1) 0 < 2 ^ 63
   pub second : s₂ + getD counts (at + 2) 0 < 2 ^ 63
@@ -71,7 +71,7 @@ pub record Ordered (s₀ s₁ s₂ s₃ s₄ s₅ reads : ℕ) : Type 0 where
   pub missBypasses : s₄ + s₃ ≤ reads
 
 -- the six cells from an index on hold the counts that six sums give, and the others are as they were
-pub record Written (entry exit : List ℕ) (at s₀ s₁ s₂ s₃ s₄ s₅ reads : ℕ) : Type 0 where
+pub record CountsWritten (entry exit : List ℕ) (at s₀ s₁ s₂ s₃ s₄ s₅ reads : ℕ) : Type 0 where
   pub ups : s₁ + getD exit at 0 ≡ s₀ + s₅
   pub sames : s₂ + getD exit (at + 1) 0 ≡ s₁
   pub downs : s₂ ≡ getD exit (at + 2) 0

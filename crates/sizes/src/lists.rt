@@ -7,8 +7,8 @@ ghost use Prim.Native.Nat.{ℕ, suc, _+_, _^_, _<_, _≤_};
 ghost use lib.ListN.{length, getD};
 ghost use Rattle.sizes.specs.Rows.{pairs, rowLength};
 ghost use Rattle.card.specs.Falling.{Falling};
-ghost use Rattle.sizes.specs.Moves.{takenOut, putIn, after};
-ghost use Rattle.sizes.specs.Lists.{Holds, Begins, Ends, At, Written, nextSize};
+ghost use Rattle.sizes.specs.Moves.{takenOut, putIn, otherAfter};
+ghost use Rattle.sizes.specs.Lists.{Holds, Begins, Ends, At, ListedUpTo, nextSize};
 
 // Room for the longest list of a block and two zeros.
 pub const LIST_ROOM: usize = LARGEST_SIZE + 3;
@@ -147,7 +147,7 @@ fn last_still(x: u16, y: u16, s: u16, l: u16, r: u16) -> u16
 fn push(out: &mut [u16], q: usize, s: u16, r: u16, last: u16) -> usize
     requires { ⌜ q ≤ length (now out) ⌝ }
     ensures range { λ x. ⌜ (q ≤ x) × (x ≤ length (now (out .entry))) × ((y : ℕ) → x ≤ y → getD (now (out .exit)) y 0 ≡ getD (now (out .entry)) y 0) ⌝ }
-    ensures written { λ x. ⌜ ((R : ℕ → ℕ) (t : ℕ) → s ≡ suc t → r ≡ R s → last ≡ R t → length (pairs R s) ≤ length (now (out .entry)) → Written (now (out .entry)) q R t → Written (now (out .exit)) x R s) ⌝ }
+    ensures written { λ x. ⌜ ((R : ℕ → ℕ) (t : ℕ) → s ≡ suc t → r ≡ R s → last ≡ R t → length (pairs R s) ≤ length (now (out .entry)) → ListedUpTo (now (out .entry)) q R t → ListedUpTo (now (out .exit)) x R s) ⌝ }
 {
     if r == 0 {
         return q;
@@ -181,7 +181,7 @@ pub fn fill(out: &mut [u16], q: usize)
 pub fn merge(list: &[u16], other: &[u16], out: &mut [u16], p: u16, n: u16) -> usize
     requires { ⌜ (0 < p) × (n < 65535) ⌝ }
     ensures range { λ x. ⌜ x ≤ length (now (out .entry)) ⌝ }
-    ensures merged { λ x. ⌜ ((J L : ℕ → ℕ) → Falling J → Falling L → Begins (now (list .entry)) J n → Begins (now (other .entry)) L n → Ends (now (out .entry)) 0 → length (pairs (after J p L) n) ≤ length (now (out .entry)) → (x ≡ length (pairs (after J p L) n)) × Holds (now (out .exit)) (after J p L) n) ⌝ }
+    ensures merged { λ x. ⌜ ((J L : ℕ → ℕ) → Falling J → Falling L → Begins (now (list .entry)) J n → Begins (now (other .entry)) L n → Ends (now (out .entry)) 0 → length (pairs (otherAfter J p L) n) ≤ length (now (out .entry)) → (x ≡ length (pairs (otherAfter J p L) n)) × Holds (now (out .exit)) (otherAfter J p L) n) ⌝ }
 {
     let first = next_size(other, 0, n);
     let mut t = first - 1;

@@ -13,10 +13,10 @@ ghost use mathlib.Core.Logic.{_⊎_};
 ghost use Prim.Native.Nat.{ℕ, _+_, _-_, _^_, _<_, _≤_, min};
 ghost use lib.ListN.{length};
 ghost use Rattle.sizes.specs.Moves.{Family};
-ghost use Rattle.sizes.specs.Renewals.{Fits, Ready, RowAt, Renewed, Renews, Small, Grown, Together};
+ghost use Rattle.sizes.specs.Renewals.{Fits, Ready, RowAt, Renewed, Renews, ChangesBelow, Grown, Together};
 
 // A read as the rows see it: the size of the largest card, the length of a row, the priority in reach, and the place of the block read in the largest card.
-pub struct Read {
+pub struct RowRead {
     pub n: u16,
     pub width: usize,
     pub p: u16,
@@ -40,7 +40,7 @@ pub fn above_row(
     area: &mut [u16],
     list: &[u16],
     scratch: &mut [u16],
-    read: Read,
+    read: RowRead,
     k: u16,
     lo: u16,
     changes: Changes,
@@ -75,7 +75,7 @@ pub fn below_row(
     area: &mut [u16],
     list: &[u16],
     scratch: &mut [u16],
-    read: Read,
+    read: RowRead,
     k: u16,
     changes: Changes,
 ) -> Changes
@@ -96,7 +96,7 @@ pub fn down_row(
     area: &mut [u16],
     list: &[u16],
     scratch: &mut [u16],
-    read: Read,
+    read: RowRead,
     k: u16,
     changes: Changes,
 ) -> Changes
@@ -121,7 +121,7 @@ pub fn up_row(
     area: &mut [u16],
     list: &[u16],
     scratch: &mut [u16],
-    read: Read,
+    read: RowRead,
     k: u16,
     changes: Changes,
 ) -> Changes
@@ -142,8 +142,8 @@ pub fn up_row(
 }
 
 // The last row that is left gets the block read, or nothing.
-pub fn own(area: &mut [u16], read: Read, changes: Changes) -> Changes
-    requires { ⌜ Fits read (length (now area)) × ((read .p ≤ read .n) ⊎ (0 < read .j)) × (read .j ≤ read .n) × Small changes (2 ^ 48) ⌝ }
+pub fn own_row(area: &mut [u16], read: RowRead, changes: Changes) -> Changes
+    requires { ⌜ Fits read (length (now area)) × ((read .p ≤ read .n) ⊎ (0 < read .j)) × (read .j ≤ read .n) × ChangesBelow changes (2 ^ 48) ⌝ }
     ensures grown { λ r. ⌜ Grown changes r (2 ^ 16) ⌝ }
     ensures renewed { λ r. ⌜ ((J : ℕ → ℕ) (L : ℕ → ℕ → ℕ) → Family L (read .n) → RowAt (now (area .entry)) read (min (read .p) (read .n)) (L (min (read .p) (read .n)))
         → Renewed read J L (min (read .p) (read .n)) changes r (now (area .entry)) (now (area .exit))) ⌝ }

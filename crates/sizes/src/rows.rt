@@ -12,7 +12,7 @@ ghost use lib.Dec.{eqb};
 ghost use lib.ListN.{length, getD};
 ghost use Rattle.sizes.specs.Rows.{pairs, rowLength, Row};
 ghost use Rattle.card.specs.Falling.{Falling};
-ghost use Rattle.sizes.specs.Moves.{after, Raised};
+ghost use Rattle.sizes.specs.Moves.{otherAfter, Raised};
 ghost use Rattle.sizes.specs.Lists.{Begins};
 ghost use Rattle.sizes.specs.Renewals.{Kept, Carried, CarriedNone, Merged};
 ghost use Rattle.card.specs.Stretches.{stretches};
@@ -66,7 +66,7 @@ fn renew(
 ) -> usize
     requires { ⌜ (0 < p) × (width ≡ rowLength n) × (at + width ≤ length (now area)) × (n < 65535) ⌝ }
     ensures kept { λ x. ⌜ (x ≤ width) × Kept (now (area .entry)) (now (area .exit)) at width ⌝ }
-    ensures holds { λ x. ⌜ ((J L T : ℕ → ℕ) → Falling J → Falling L → Falling T → Begins (now (list .entry)) J n → Begins (now (other .entry)) L n → Row (now (area .entry)) at width (pairs T n) → (x ≡ length (pairs (after J p L) n)) × Row (now (area .exit)) at width (pairs (after J p L) n)) ⌝ }
+    ensures holds { λ x. ⌜ ((J L T : ℕ → ℕ) → Falling J → Falling L → Falling T → Begins (now (list .entry)) J n → Begins (now (other .entry)) L n → Row (now (area .entry)) at width (pairs T n) → (x ≡ length (pairs (otherAfter J p L) n)) × Row (now (area .exit)) at width (pairs (otherAfter J p L) n)) ⌝ }
 {
     let end = at + width;
     merge(list, other, &mut area[at..end], p, n)

@@ -1,10 +1,10 @@
 // One read on all rows: those above and below the blocks that move stay unless the read touches their list, and the others go one place up or down.
 use crate::lists::count_entries;
-use crate::renewals::Read;
+use crate::renewals::RowRead;
 use crate::renewals::above_row;
 use crate::renewals::below_row;
 use crate::renewals::down_row;
-use crate::renewals::own;
+use crate::renewals::own_row;
 use crate::renewals::up_row;
 use crate::rows::Changes;
 use crate::rows::row_length;
@@ -18,7 +18,7 @@ ghost use Rattle.card.specs.Falling.{Falling};
 ghost use Rattle.sizes.specs.Moves.{Family, newOf};
 ghost use Rattle.sizes.specs.Lists.{Begins};
 ghost use Rattle.sizes.specs.Renewals.{Ready, Grown};
-ghost use Rattle.sizes.specs.Sweeps.{Leads, RowsOf, AllRenewed, Fresh, Found, leftOf};
+ghost use Rattle.sizes.specs.Sweeps.{Leads, RowsOf, AllRenewed, Fresh, FoundInRows, leftOf};
 ghost use Rattle.sizes.specs.Totals.{sumTo, mostTo};
 ghost use Rattle.card.specs.Stretches.{stretches};
 ghost use Rattle.card.specs.Stretches as card;
@@ -28,7 +28,7 @@ fn above(
     area: &mut [u16],
     list: &[u16],
     scratch: &mut [u16],
-    read: Read,
+    read: RowRead,
     lo: u16,
     changes: Changes,
 ) -> Changes
@@ -50,7 +50,7 @@ fn below(
     area: &mut [u16],
     list: &[u16],
     scratch: &mut [u16],
-    read: Read,
+    read: RowRead,
     bottom: u16,
     changes: Changes,
 ) -> Changes
@@ -75,7 +75,7 @@ fn down(
     area: &mut [u16],
     list: &[u16],
     scratch: &mut [u16],
-    read: Read,
+    read: RowRead,
     bottom: u16,
     changes: Changes,
 ) -> Changes
@@ -97,7 +97,7 @@ fn up(
     area: &mut [u16],
     list: &[u16],
     scratch: &mut [u16],
-    read: Read,
+    read: RowRead,
     bottom: u16,
     changes: Changes,
 ) -> Changes
@@ -129,7 +129,7 @@ fn renew_inserted(
     area: &mut [u16],
     list: &[u16],
     scratch: &mut [u16],
-    read: Read,
+    read: RowRead,
     changes: Changes,
 ) -> Changes
     requires { ⌜ Ready read (now area) (now list) (now scratch) changes (2 ^ 40) × Fresh changes × (read .j ≡ 0) × (read .p ≤ read .n) ⌝ }
@@ -138,7 +138,7 @@ fn renew_inserted(
 {
     let upper = above(area, list, scratch, read, read.p, changes);
     let all = down(area, list, scratch, read, read.n, upper);
-    own(area, read, all)
+    own_row(area, read, all)
 }
 
 // All rows where it goes up or stays: those from its new place to its old one go down.
@@ -146,7 +146,7 @@ fn renew_raised(
     area: &mut [u16],
     list: &[u16],
     scratch: &mut [u16],
-    read: Read,
+    read: RowRead,
     changes: Changes,
 ) -> Changes
     requires { ⌜ Ready read (now area) (now list) (now scratch) changes (2 ^ 40) × Fresh changes × (read .p ≤ read .j) × (read .j ≤ read .n) ⌝ }
@@ -156,7 +156,7 @@ fn renew_raised(
     let upper = above(area, list, scratch, read, read.p, changes);
     let both = below(area, list, scratch, read, read.j, upper);
     let all = down(area, list, scratch, read, read.j, both);
-    own(area, read, all)
+    own_row(area, read, all)
 }
 
 // All rows where it goes down or leaves: those from its old place to its new one, or the last one, go up.
@@ -164,7 +164,7 @@ fn renew_lowered(
     area: &mut [u16],
     list: &[u16],
     scratch: &mut [u16],
-    read: Read,
+    read: RowRead,
     changes: Changes,
 ) -> Changes
     requires { ⌜ Ready read (now area) (now list) (now scratch) changes (2 ^ 40) × Fresh changes × (0 < read .j) × (read .j < read .p) × (read .j ≤ read .n) ⌝ }
@@ -175,7 +175,7 @@ fn renew_lowered(
     let upper = above(area, list, scratch, read, read.j, changes);
     let both = below(area, list, scratch, read, bottom, upper);
     let all = up(area, list, scratch, read, bottom, both);
-    own(area, read, all)
+    own_row(area, read, all)
 }
 
 // All rows, by where the block read was.
@@ -183,7 +183,7 @@ fn renew_rows(
     area: &mut [u16],
     list: &[u16],
     scratch: &mut [u16],
-    read: Read,
+    read: RowRead,
     changes: Changes,
 ) -> Changes
     requires { ⌜ Ready read (now area) (now list) (now scratch) changes (2 ^ 40) × Fresh changes × (read .j ≤ read .n) × (read .j ≡ 0 → read .p ≤ read .n) ⌝ }
@@ -238,9 +238,9 @@ pub fn renew_all(
     j: usize,
 ) -> Changes
     requires { ⌜ (1 ≤ n) × (n ≤ size .largest) × (1 ≤ p) × (j ≤ n) × (j ≡ 0 → p ≤ n) × (rowLength n + 2 ≤ length (now list)) × (n * rowLength n ≤ length (now stretches)) × (rowLength n < length (now scratch)) ⌝ }
-    ensures rows { λ r. ⌜ ((J : ℕ → ℕ) (L : ℕ → ℕ → ℕ) → Found (now (list .entry)) (now (stretches .entry)) n j J L → RowsOf (now (stretches .exit)) (rowLength n) n (newOf J p j L)) ⌝ }
-    ensures changes { λ r. ⌜ ((J : ℕ → ℕ) (L : ℕ → ℕ → ℕ) → Found (now (list .entry)) (now (stretches .entry)) n j J L → r .gained + sumTo n (λ k. card.stretches (L k) n) ≡ r .lost + sumTo n (λ k. card.stretches (newOf J p j L k) n)) ⌝ }
-    ensures longest { λ r. ⌜ ((J : ℕ → ℕ) (L : ℕ → ℕ → ℕ) → Found (now (list .entry)) (now (stretches .entry)) n j J L → (B : ℕ) → ((k : ℕ) → 1 ≤ k → k ≤ n → card.stretches (L k) n ≤ B) → max B (r .longest) ≡ max B (mostTo n (λ k. card.stretches (newOf J p j L k) n))) ⌝ }
+    ensures rows { λ r. ⌜ ((J : ℕ → ℕ) (L : ℕ → ℕ → ℕ) → FoundInRows (now (list .entry)) (now (stretches .entry)) n j J L → RowsOf (now (stretches .exit)) (rowLength n) n (newOf J p j L)) ⌝ }
+    ensures changes { λ r. ⌜ ((J : ℕ → ℕ) (L : ℕ → ℕ → ℕ) → FoundInRows (now (list .entry)) (now (stretches .entry)) n j J L → r .gained + sumTo n (λ k. card.stretches (L k) n) ≡ r .lost + sumTo n (λ k. card.stretches (newOf J p j L k) n)) ⌝ }
+    ensures longest { λ r. ⌜ ((J : ℕ → ℕ) (L : ℕ → ℕ → ℕ) → FoundInRows (now (list .entry)) (now (stretches .entry)) n j J L → (B : ℕ) → ((k : ℕ) → 1 ≤ k → k ≤ n → card.stretches (L k) n ≤ B) → max B (r .longest) ≡ max B (mostTo n (λ k. card.stretches (newOf J p j L k) n))) ⌝ }
     ensures small { λ r. ⌜ r .gained < 2 ^ 36 ⌝ }
 {
     let width = row_length(n);
@@ -248,7 +248,7 @@ pub fn renew_all(
     let priority = priority_of(p, n);
     let place = j as u16;
     let lost = leaving(stretches, width, list, last, priority, place);
-    let read = Read {
+    let read = RowRead {
         n: last,
         width,
         p: priority,

@@ -5,7 +5,7 @@ ghost use Prim.Native.Nat.{ℕ, _+_, _*_, _^_, _<_, _≤_};
 ghost use lib.ListN.{length, getD};
 ghost use Rattle.card.specs.Falling.{Falling};
 ghost use Rattle.sizes.specs.Lists.{Holds};
-ghost use Rattle.sizes.specs.TallySteps.{bumped, begun, Passed, Begins, ReadTallied, Summing, Finished, More, Small, Ordered, Written};
+ghost use Rattle.sizes.specs.TallySteps.{bumped, begun, Passed, PresentFrom, ReadTallied, Summing, Finished, More, SmallSums, Ordered, CountsWritten};
 
 // One more in tally k of a size; a size past the largest has no tallies.
 fn bump(counts: &mut [u64], n: usize, k: usize, m: usize)
@@ -35,7 +35,7 @@ fn begin(counts: &mut [u64], n: usize, first: usize, p: usize)
 }
 
 // The number of the first stretch, from one on, whose place is at most `most`; the zeros after the last stretch stop the search.
-fn within(list: &[u16], from: usize, most: usize) -> usize
+fn first_within(list: &[u16], from: usize, most: usize) -> usize
     ensures place { λ r. ⌜ getD (now (list .entry)) (2 * r + 1) 0 ≤ most ⌝ }
     ensures passed { λ r. ⌜ ((J : ℕ → ℕ) (n : ℕ) → Falling J → Holds (now (list .entry)) J n → Passed J n most from → Passed J n most r) ⌝ }
 {
@@ -53,7 +53,7 @@ fn within(list: &[u16], from: usize, most: usize) -> usize
 fn first_size(list: &[u16], i: usize, n: usize) -> usize
     requires { ⌜ n < 2 ^ 63 ⌝ }
     ensures some { λ r. ⌜ 1 ≤ r ⌝ }
-    ensures begins { λ r. ⌜ ((J : ℕ → ℕ) (most : ℕ) → Falling J → Holds (now (list .entry)) J n → getD (now (list .entry)) (2 * i + 1) 0 ≤ most → Passed J n most i → Begins J n most r) ⌝ }
+    ensures begins { λ r. ⌜ ((J : ℕ → ℕ) (most : ℕ) → Falling J → Holds (now (list .entry)) J n → getD (now (list .entry)) (2 * i + 1) 0 ≤ most → Passed J n most i → PresentFrom J n most r) ⌝ }
 {
     if list.len() / 2 <= i {
         return n + 1;
@@ -75,16 +75,16 @@ pub fn tally(counts: &mut [u64], list: &[u16], n: usize, p: usize)
 {
     let first = first_size(list, 0, n);
     begin(counts, n, first, p);
-    let same = within(list, 0, p);
+    let same = first_within(list, 0, p);
     let from = first_size(list, same, n);
     bump(counts, n, 1, larger(from, p));
-    let down = within(list, same, p - 1);
+    let down = first_within(list, same, p - 1);
     let below = first_size(list, down, n);
     bump(counts, n, 2, larger(below, p));
 }
 
 // The sums of the six tallies over the sizes so far.
-struct Sofar {
+struct SixSums {
     zeroth: u64,
     first: u64,
     second: u64,
@@ -94,12 +94,12 @@ struct Sofar {
 }
 
 // The sums with one size more, whose tallies start at an index.
-fn add_size(counts: &[u64], at: usize, s: Sofar) -> Sofar
-    requires { ⌜ (at + 6 ≤ length (now counts)) × Small (now counts) at (s .zeroth) (s .first) (s .second) (s .third) (s .fourth) (s .fifth) ⌝ }
+fn add_size(counts: &[u64], at: usize, s: SixSums) -> SixSums
+    requires { ⌜ (at + 6 ≤ length (now counts)) × SmallSums (now counts) at (s .zeroth) (s .first) (s .second) (s .third) (s .fourth) (s .fifth) ⌝ }
     ensures { λ r. ⌜ More (now (counts .entry)) at (s .zeroth) (s .first) (s .second) (s .third) (s .fourth) (s .fifth)
         (r .zeroth) (r .first) (r .second) (r .third) (r .fourth) (r .fifth) ⌝ }
 {
-    Sofar {
+    SixSums {
         zeroth: s.zeroth + counts[at],
         first: s.first + counts[at + 1],
         second: s.second + counts[at + 2],
@@ -110,9 +110,9 @@ fn add_size(counts: &[u64], at: usize, s: Sofar) -> Sofar
 }
 
 // The six counts that the sums of a size give, over the tallies of that size.
-fn write_size(counts: &mut [u64], at: usize, s: Sofar, reads: u64)
+fn write_size(counts: &mut [u64], at: usize, s: SixSums, reads: u64)
     requires { ⌜ (at + 6 ≤ length (now counts)) × (reads < 2 ^ 62) × Ordered (s .zeroth) (s .first) (s .second) (s .third) (s .fourth) (s .fifth) reads ⌝ }
-    ensures { λ _. ⌜ Written (now (counts .entry)) (now (counts .exit)) at (s .zeroth) (s .first) (s .second) (s .third) (s .fourth) (s .fifth) reads ⌝ }
+    ensures { λ _. ⌜ CountsWritten (now (counts .entry)) (now (counts .exit)) at (s .zeroth) (s .first) (s .second) (s .third) (s .fourth) (s .fifth) reads ⌝ }
 {
     counts[at] = s.zeroth + s.fifth - s.first;
     counts[at + 1] = s.first - s.second;
@@ -128,7 +128,7 @@ pub fn finish(counts: &mut [u64], n: usize, reads: u64)
     ensures finished { λ _. ⌜ Finished (now (counts .entry)) (now (counts .exit)) n reads ⌝ }
     ensures kept { λ _. ⌜ ((x : ℕ) → 6 * n ≤ x → getD (now (counts .exit)) x 0 ≡ getD (now (counts .entry)) x 0) ⌝ }
 {
-    let mut s = Sofar {
+    let mut s = SixSums {
         zeroth: 0,
         first: 0,
         second: 0,

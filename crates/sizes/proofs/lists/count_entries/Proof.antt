@@ -7,7 +7,7 @@ use Prim.Native.Nat.{ℕ, _-_, _≤_, _<_}
 use lib.ListN.{getD}
 use Rattle.card.proofs.Tests.{by-eq}
 use Rattle.sizes.proofs.PairFacts.{pairs-fit}
-use Rattle.sizes.proofs.Copies.{counted}
+use Rattle.sizes.proofs.Copies.{entries-counted}
 use Rattle.sizes.proofs.lists.count_entries.Statement.{statement}
 use Rattle.sizes.proofs.lists.count_entries.Tie as tie
 
@@ -20,7 +20,7 @@ abbrev μ-loop : tie.MeasureT-loop
 returns : tie.Need-returns Inv-loop μ-loop
 returns c =
     let l = c .before .before .before .loop in
-    (omega arith, λ R n ew good begins. counted (c .before .before .before .before .args .list .now) (l .x) R n (l .inv .1) (inl (c .if1 .taken)) begins)
+    (omega arith, λ R n ew good begins. entries-counted (c .before .before .before .before .args .list .now) (l .x) R n (l .inv .1) (inl (c .if1 .taken)) begins)
 
 loop-again : tie.Need-loop-again Inv-loop μ-loop
 loop-again c =
@@ -34,7 +34,7 @@ loop-again c =
 returns-2 : tie.Need-returns-2 Inv-loop μ-loop
 returns-2 c =
     let l = c .before .loop in
-    (omega arith, λ R n ew good begins. counted (c .before .before .args .list .now) (l .x) R n (l .inv .1) (inr (omega (arith, pairs-fit R n good, c .loop-test .left))) begins)
+    (omega arith, λ R n ew good begins. entries-counted (c .before .before .args .list .now) (l .x) R n (l .inv .1) (inr (omega (arith, pairs-fit R n good, c .loop-test .left))) begins)
 
 pub count-entries-spec : {M : Type 1} → statement M
 count-entries-spec =

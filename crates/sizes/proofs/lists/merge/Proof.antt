@@ -6,17 +6,17 @@ use Prim.Native.Nat.{ℕ, _+_, _-_, _≤_}
 use native.Mathlib.Numerals.{add-one}
 use lib.ListN.{length, getD}
 use Rattle.card.specs.Falling.{Falling}
-use Rattle.sizes.specs.Moves.{after}
+use Rattle.sizes.specs.Moves.{otherAfter}
 use Rattle.sizes.specs.Rows.{pairs}
-use Rattle.sizes.specs.Lists.{Begins, Written}
-use Rattle.sizes.proofs.PairLaws.{State, state-first, state-next, at-first, at-later, rule-after, holds-all, len-le}
+use Rattle.sizes.specs.Lists.{Begins, ListedUpTo}
+use Rattle.sizes.proofs.PairLaws.{Merging, merging-first, merging-next, at-first, at-later, rule-after, holds-all, len-le}
 use Rattle.sizes.proofs.lists.merge.Statement.{statement}
 use Rattle.sizes.proofs.lists.merge.Tie as tie
 
 abbrev Inv-loop : tie.InvT-loop
 Inv-loop list other out₀ p n first t₀ q₀ last₀ x₀ y₀ out t q last x y =
     (x .passed ≤ length list + 1 + (t + t)) × (y .passed ≤ t + t) × (q ≤ length out) × (length out ≡ length out₀) × ((x : ℕ) → q ≤ x → getD out x 0 ≡ getD out₀ x 0)
-    × ((J L : ℕ → ℕ) → Falling J → Falling L → Begins list J n → Begins other L n → length (pairs (after J p L) n) ≤ length out₀ → State J L p n out t q last (x .passed) (x .place) (x .next) (y .passed) (y .place) (y .next))
+    × ((J L : ℕ → ℕ) → Falling J → Falling L → Begins list J n → Begins other L n → length (pairs (otherAfter J p L) n) ≤ length out₀ → Merging J L p n out t q last (x .passed) (x .place) (x .next) (y .passed) (y .place) (y .next))
 
 abbrev μ-loop : tie.MeasureT-loop
 μ-loop list other out₀ p n first t₀ q₀ last₀ x₀ y₀ out t q last x y = n - t
@@ -34,7 +34,7 @@ loop-holds c =
       λ x h. refl,
       λ J L gj gl hd hb fits.
           let ot = at-first L (at .other .now) (at .n) (y .result) gl hb (y .ensures .1) in
-          state-first J L (at .p) (at .n) _ _ _ _ _ (y .result) (pre .0) gl refl ot (x .ensures .1 J gj hd (omega (arith, at-later L (at .n) 0 0 0 (y .result) (omega arith) ot))),
+          merging-first J L (at .p) (at .n) _ _ _ _ _ (y .result) (pre .0) gl refl ot (x .ensures .1 J gj hd (omega (arith, at-later L (at .n) 0 0 0 (y .result) (omega arith) ot))),
     )
 
 loop-again : tie.Need-loop-again Inv-loop μ-loop
@@ -60,8 +60,8 @@ loop-again c =
           let rd = ad .ensures .1 J (lp .t) gj hd (add-one (lp .t)) hs (st .read) in
           let ot = ad2 .ensures .1 L (lp .t) gl hb (add-one (lp .t)) hs (st .other) in
           let er = rule-after J L (at .p) (at .n) s (ru .result) _ _ _ _ _ _ rd ot (ru .ensures) in
-          let wr = pu .ensures .1 (after J (at .p) L) (lp .t) (add-one (lp .t)) er (st .place) (omega (arith, len-le (after J (at .p) L) s (at .n) hs, lp .inv .3)) (st .done) in
-          state-next J L (at .p) (at .n) _ s (up .result) _ (ru .result) _ _ _ _ _ _ (pre .0) gj gl hs (up .ensures .0) (up .ensures .1 .0) (up .ensures .1 .1) rd ot wr er,
+          let wr = pu .ensures .1 (otherAfter J (at .p) L) (lp .t) (add-one (lp .t)) er (st .place) (omega (arith, len-le (otherAfter J (at .p) L) s (at .n) hs, lp .inv .3)) (st .done) in
+          merging-next J L (at .p) (at .n) _ s (up .result) _ (ru .result) _ _ _ _ _ _ (pre .0) gj gl hs (up .ensures .0) (up .ensures .1 .0) (up .ensures .1 .1) rd ot wr er,
     )
 
 returns : tie.Need-returns Inv-loop μ-loop
@@ -73,8 +73,8 @@ returns c = (
       let fi = c .before .before .fill in
       let st = lp .inv .5 J L gj gl hd hb fits in
       let e : lp .t ≡ at .n = omega (arith, st .within, c .before .before .before .before .loop-test .left) in
-      let w = subst (λ (z : ℕ). Written (lp .out) (lp .q) (after J (at .p) L) z) e (st .done) in
-      (w .count, holds-all (lp .out) (fi .last .0) (lp .q) (after J (at .p) L) (at .n) w (fi .ensures .0) (fi .ensures .1 (λ x y hq hy z. lp .inv .4 y (omega arith) ∙ ends x y (omega arith) hy (sym (lp .inv .4 x hq) ∙ z)))),
+      let w = subst (λ (z : ℕ). ListedUpTo (lp .out) (lp .q) (otherAfter J (at .p) L) z) e (st .done) in
+      (w .count, holds-all (lp .out) (fi .last .0) (lp .q) (otherAfter J (at .p) L) (at .n) w (fi .ensures .0) (fi .ensures .1 (λ x y hq hy z. lp .inv .4 y (omega arith) ∙ ends x y (omega arith) hy (sym (lp .inv .4 x hq) ∙ z)))),
 )
 
 pub merge-spec : {M : Type 1} → statement M

@@ -5,7 +5,7 @@ use mathlib.Core.Path.{_≡_, refl, sym, _∙_}
 use mathlib.Core.Logic.{⊎-elim}
 use Prim.Native.Nat.{ℕ, _-_, _*_, _≤_}
 use lib.ListN.{getD}
-use Rattle.sizes.specs.Moves.{after}
+use Rattle.sizes.specs.Moves.{otherAfter}
 use Rattle.sizes.proofs.RowLaws.{row-first, after-none}
 use Rattle.sizes.proofs.RowSkips.{first-bound, keep-below}
 use Rattle.sizes.proofs.Ways.{row-room, way-below}
@@ -29,7 +29,7 @@ returns c =
           let good = f .family .good k in
           let first = row-first (at .area .now) a (at .read .width) n (L k) (omega (arith, fits .wide, fits .some)) row in
           let fb = first-bound J n n (f .falling) (omega arith) (omega (arith, f .there, pre .1)) in
-          let same : (m : ℕ) → m ≤ n → after J (at .read .p) (L k) m ≡ L k m = ⊎-elim
+          let same : (m : ℕ) → m ≤ n → otherAfter J (at .read .p) (L k) m ≡ L k m = ⊎-elim
           (λ there. ⊎-elim
           (λ z. absurd (omega (arith, z, first, first-bound (L k) n n good (omega arith) (omega (arith, there)) .0)))
           (λ z. keep-below J (L k) (at .read .p) n (at .read .j) k (getD (at .area .now) a 0) (getD (at .list .now) 0 0) (getD (at .list .now) 1 0) (fits .read-at) (f .falling) good (f .there) there first (f .begins 0 (omega arith)) (f .begins 1 (omega (arith, fb .4))) (pre .1) (z .0) (pre .3) (z .1))

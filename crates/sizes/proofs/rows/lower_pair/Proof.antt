@@ -4,7 +4,7 @@ use mathlib.Core.Path.{sym, ap, _∙_}
 use mathlib.Core.List.{[], _∷_}
 use Prim.Native.Nat.{ℕ, _+_}
 use lib.ListN.{getD}
-use Rattle.sizes.specs.Moves.{after}
+use Rattle.sizes.specs.Moves.{otherAfter}
 use Rattle.sizes.proofs.RowLaws.{never, unmoved}
 use Rattle.sizes.proofs.Singles.{single-row, pairs-lowered, stretches-still}
 use Rattle.sizes.proofs.rows.lower_pair.Statement.{statement}
@@ -23,7 +23,7 @@ returns-2 c =
           let first = getD (at .area .now) (at .from) 0 in
           let one = single-row (at .area .now) (at .from) (at .width) n (at .s) S (pre .0) (pre .3) (c .before .before .before .before .before .before .if1 .left) es gs src in
           let new = pairs-lowered J S p n j first (at .s) pos gj ej one away ps sn ∙ ap (λ (z : ℕ). z ∷ (at .s + 1) ∷ []) (sym (c .before .before .before .before .lowered-first .ensures)) in
-          (write .1 (after J p S) T n ew gt new old, stretches-still S n first (at .s) one (after J p S) _ _ new),
+          (write .1 (otherAfter J p S) T n ew gt new old, stretches-still S n first (at .s) one (otherAfter J p S) _ _ new),
     )
 
 pub lower-pair-spec : {M : Type 1} → statement M

@@ -2,8 +2,8 @@
 use borrow.Author.Needs.{needs}
 use native.Mathlib.Omega.{arith}
 use mathlib.Core.Path.{refl}
-use Rattle.sizes.specs.Moves.{after}
-use Rattle.sizes.proofs.RowCounts.{stretches-half}
+use Rattle.sizes.specs.Moves.{otherAfter}
+use Rattle.sizes.proofs.RowCounts.{stretches-entries}
 use Rattle.sizes.proofs.rows.merge_row.Statement.{statement}
 use Rattle.sizes.proofs.rows.merge_row.Tie as tie
 
@@ -17,7 +17,7 @@ returns c =
       λ J S T gj gs gt listed src old.
           let was = copy .1 .0 S (at .n) (pre .2) gs src in
           let new = renew .1 J S T gj gs gt listed (was .1) old in
-          (new .1, stretches-half (after J (at .p) S) (at .n) _ (new .0), stretches-half S (at .n) _ (was .0), refl),
+          (new .1, stretches-entries (otherAfter J (at .p) S) (at .n) _ (new .0), stretches-entries S (at .n) _ (was .0), refl),
     )
 
 pub merge-row-spec : {M : Type 1} → statement M

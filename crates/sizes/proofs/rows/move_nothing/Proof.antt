@@ -5,15 +5,15 @@ use mathlib.Core.Path.{refl, sym, ap, _∙_}
 use mathlib.Core.List.{List}
 use Prim.Native.Nat.{ℕ}
 use lib.ListN.{getD}
-use Rattle.sizes.specs.Moves.{after}
-use Rattle.sizes.proofs.RowLaws.{row-first, never, untouched, pairs-none, after-none}
+use Rattle.sizes.specs.Moves.{otherAfter}
+use Rattle.sizes.proofs.RowLaws.{row-first, never, kept-same, pairs-none, after-none}
 use Rattle.sizes.proofs.RowSkips.{nowhere}
 use Rattle.sizes.proofs.RowCounts.{stretches-none}
 use Rattle.sizes.proofs.rows.move_nothing.Statement.{statement}
 use Rattle.sizes.proofs.rows.move_nothing.Tie as tie
 
 returns : tie.Need-returns
-returns c = ((untouched _ _ _, λ e. (refl, omega arith)), never)
+returns c = ((kept-same _ _ _, λ e. (refl, omega arith)), never)
 
 returns-2 : tie.Need-returns-2
 returns-2 c =
@@ -24,8 +24,8 @@ returns-2 c =
       λ _ n p J S T ew pos gt some gs src old.
           let none = nowhere S n gs some (omega (arith, row-first (at .area .now) (at .from) (at .width) n S (omega arith) src, c .before .before .before .before .if1 .left)) in
           let gone = after-none J p S pos none in (
-            λ q hq. closed .1 T n ew gt (λ x _. old x) q (omega arith) hq ∙ sym (ap (λ (l : List ℕ). getD l q 0) (pairs-none (after J p S) n gone)),
-            stretches-none (after J p S) n gone ∙ sym (stretches-none S n none),
+            λ q hq. closed .1 T n ew gt (λ x _. old x) q (omega arith) hq ∙ sym (ap (λ (l : List ℕ). getD l q 0) (pairs-none (otherAfter J p S) n gone)),
+            stretches-none (otherAfter J p S) n gone ∙ sym (stretches-none S n none),
           ),
     )
 

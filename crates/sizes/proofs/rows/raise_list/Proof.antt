@@ -5,7 +5,7 @@ use mathlib.Core.Path.{sym, _∙_}
 use lib.ListN.{getD, List·getD-eq-default}
 use Prim.Native.Nat.{_+_}
 use Rattle.card.proofs.Tests.{by-lt}
-use Rattle.sizes.specs.Moves.{after}
+use Rattle.sizes.specs.Moves.{otherAfter}
 use Rattle.sizes.specs.Rows.{pairs}
 use Rattle.sizes.proofs.RowLaws.{never, unmoved, row-first, kept-twice}
 use Rattle.sizes.proofs.Raisings.{raised-after, raised-stretches}
@@ -31,11 +31,11 @@ returns-4 c =
       λ _ n j J S T ew pos gj gs gt es ej some estart eplace src old.
           let up = raised-after J S (at .p) n j (at .s) (at .start) (at .place) (getD (at .area .now) (at .from) 0) (getD (at .area .now) (at .from + 1) 0) pos gj gs es ej some estart eplace
           (row-first (at .area .now) (at .from) (at .width) n S (omega arith) src) (src 1 (omega arith)) (omega (arith, c .before .before .before .before .before .before .before .before .before .before .before .before .if1 .left)) (c .before .before .before .before .before .before .before .before .before .before .if2 .left) (c .before .before .before .before .before .before .before .before .if3 .left) in
-          let new = write .ensures .1 (after J (at .p) S) S n ew gs up src in (
+          let new = write .ensures .1 (otherAfter J (at .p) S) S n ew gs up src in (
             λ q hq. by-lt q (write .result)
                 (λ lt. close .ensures .0 .1 q lt hq ∙ new .1 q lt)
-                (λ ge. close .ensures .1 T n ew gt (λ x le h. write .ensures .0 .1 .above (at .at + x) (omega arith) ∙ old x h) q ge hq ∙ sym (List·getD-eq-default (pairs (after J (at .p) S) n) 0 {n = q} (omega (arith, new .0)))),
-            raised-stretches (after J (at .p) S) S n up,
+                (λ ge. close .ensures .1 T n ew gt (λ x le h. write .ensures .0 .1 .above (at .at + x) (omega arith) ∙ old x h) q ge hq ∙ sym (List·getD-eq-default (pairs (otherAfter J (at .p) S) n) 0 {n = q} (omega (arith, new .0)))),
+            raised-stretches (otherAfter J (at .p) S) S n up,
           ),
     )
 

@@ -4,7 +4,7 @@ use native.Mathlib.Omega.{arith}
 use mathlib.Core.Path.{_≡_, _∙_}
 use Prim.Native.Nat.{_+_, _-_}
 use lib.ListN.{length}
-use Rattle.sizes.specs.Moves.{after}
+use Rattle.sizes.specs.Moves.{otherAfter}
 use Rattle.sizes.proofs.PairLaws.{after-good}
 use Rattle.sizes.proofs.PairFacts.{pairs-fit}
 use Rattle.sizes.proofs.RowParts.{put-kept, put-within, mid-length, mid-ends}
@@ -20,7 +20,7 @@ returns c =
     let len : length (me .last .1 .1 .0) ≡ at .width = me .kept .1 .1 .0 ∙ mid-length (at .area .now) (at .at) (at .width) _ (pre .2) ek in (
       (omega (arith, me .ensures .0, mid-length (at .area .now) (at .at) (at .width) _ (pre .2) ek), put-kept (at .area .now) (me .last .1 .1 .0) (at .at) (at .width) _ (pre .2) ek len),
       λ J L T gj gl gt hd hb sl.
-          let r = me .ensures .1 J L gj gl hd hb (mid-ends (at .area .now) (at .at) (at .width) _ (at .n) T (pre .2) ek (pre .1) gt 0 (λ x _. sl x)) (omega (arith, pairs-fit (after J (at .p) L) (at .n) (after-good J L (at .p) (pre .0) gj gl), mid-length (at .area .now) (at .at) (at .width) _ (pre .2) ek)) in
+          let r = me .ensures .1 J L gj gl hd hb (mid-ends (at .area .now) (at .at) (at .width) _ (at .n) T (pre .2) ek (pre .1) gt 0 (λ x _. sl x)) (omega (arith, pairs-fit (otherAfter J (at .p) L) (at .n) (after-good J L (at .p) (pre .0) gj gl), mid-length (at .area .now) (at .at) (at .width) _ (pre .2) ek)) in
           (r .0, λ q hq. put-within (at .area .now) (me .last .1 .1 .0) (at .at) (at .width) _ (pre .2) ek len q hq ∙ r .1 q),
     )
 

@@ -8,7 +8,7 @@ use lib.ListN.{length, getD}
 use Rattle.card.specs.Stretches.{stretches}
 use Rattle.sizes.specs.Moves.{newOf}
 use Rattle.sizes.specs.Rows.{pairs, rowLength, Row}
-use Rattle.sizes.specs.Sweeps.{Found}
+use Rattle.sizes.specs.Sweeps.{FoundInRows}
 use Rattle.sizes.proofs.PairLists.{pairs-same, stretches-same}
 use Rattle.sizes.proofs.Widths.{list-room}
 use Rattle.sizes.proofs.RowLaws.{base-le}

@@ -21,8 +21,8 @@ up-requires c κs =
     let low = c .before .before .before .before .before .before .before .before .before .before .before .before .before .before .before .before .bottom-of .ensures in
     ((fits-kept (c .before .before .before .before .before .before .below .kept .0 ∙ c .before .before .before .before .before .before .before .before .before .before .before .before .before .above .kept .0) (pre .0 .0), omega arith, omega arith, (omega arith, omega arith)), pre .2, omega (arith, low), omega (arith, low), omega (arith, low))
 
-own-requires : tie.Need-own-requires
-own-requires c κs =
+own-row-requires : tie.Need-own-row-requires
+own-row-requires c κs =
     let pre = c .before .before .before .before .before .before .before .before .before .before .before .before .before .before .before .before .before .before .before .before .before .before .before .before .before .before .pre in
     (fits-kept (c .before .before .before .before .before .up .kept .0 ∙ c .before .before .before .before .before .before .before .before .before .before .before .before .below .kept .0 ∙ c .before .before .before .before .before .before .before .before .before .before .before .before .before .before .before .before .before .before .before .above .kept .0) (pre .0 .0), inr (pre .2), pre .4, (omega arith, omega arith))
 
@@ -34,7 +34,7 @@ returns c =
     let upper = c .before .before .before .before .before .before .before .before .before .before .before .before .before .before .before .before .before .before .before .before .before .before .above .ensures in
     let both = c .before .before .before .before .before .before .before .before .before .before .before .before .before .before .before .below .ensures in (
       leads-all (at .list .now) (at .read) (low .result) _ _ _ _ _ _ (pre .0 .0 .read-at) (pre .0 .0 .some) (pre .1) (low .ensures)
-          (λ left J L finds half. c .before .before .before .before .before .before .before .before .up .ensures .1 left J L finds (both .1 (at .read .j - 1) (omega (arith, low .ensures, pre .3, pre .4)) left J L finds (upper .1 left J L finds half))) (c .before .before .own .ensures .1),
+          (λ left J L finds half. c .before .before .before .before .before .before .before .before .up .ensures .1 left J L finds (both .1 (at .read .j - 1) (omega (arith, low .ensures, pre .3, pre .4)) left J L finds (upper .1 left J L finds half))) (c .before .before .own-row .ensures .1),
       omega arith,
     )
 
@@ -46,7 +46,7 @@ renew-lowered-spec =
     (λ c κs. let pre = c .before .before .before .before .before .before .pre in (pre .0, pre .2, omega arith, inr (omega arith), pre .4))
     below-requires
     up-requires
-    own-requires
+    own-row-requires
     (λ c. search needs)
     (λ c. search needs)
     returns)

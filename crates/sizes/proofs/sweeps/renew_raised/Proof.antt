@@ -18,8 +18,8 @@ down-requires c κs =
     let pre = c .before .before .before .before .before .before .before .before .before .before .before .before .before .before .before .before .before .before .before .pre in
     ((fits-kept (c .before .before .before .before .before .before .below .kept .0 ∙ c .before .before .before .before .before .before .before .before .before .before .before .before .before .above .kept .0) (pre .0 .0), omega arith, omega arith, (omega arith, omega arith)), pre .2, pre .3, inr (omega arith))
 
-own-requires : tie.Need-own-requires
-own-requires c κs =
+own-row-requires : tie.Need-own-row-requires
+own-row-requires c κs =
     let pre = c .before .before .before .before .before .before .before .before .before .before .before .before .before .before .before .before .before .before .before .before .before .before .before .before .before .pre in
     (fits-kept (c .before .before .before .before .before .down .kept .0 ∙ c .before .before .before .before .before .before .before .before .before .before .before .before .below .kept .0 ∙ c .before .before .before .before .before .before .before .before .before .before .before .before .before .before .before .before .before .before .before .above .kept .0) (pre .0 .0), inr (omega (arith, pre .0 .0 .read-at)), pre .3, (omega arith, omega arith))
 
@@ -31,7 +31,7 @@ returns c =
     let both = c .before .before .before .before .before .before .before .before .before .before .before .before .before .before .before .below .ensures in
     let all = c .before .before .before .before .before .before .before .before .down .ensures in (
       leads-all (at .list .now) (at .read) (at .read .p) _ _ _ _ _ _ (pre .0 .0 .read-at) (pre .0 .0 .some) (pre .1) (omega (arith, pre .2, pre .3))
-          (λ left J L finds half. all .1 (at .read .p - 1) (omega (arith, pre .0 .0 .read-at)) left J L finds (both .1 (at .read .p - 1) (omega (arith, pre .2)) left J L finds (upper .1 left J L finds half))) (c .before .before .own .ensures .1),
+          (λ left J L finds half. all .1 (at .read .p - 1) (omega (arith, pre .0 .0 .read-at)) left J L finds (both .1 (at .read .p - 1) (omega (arith, pre .2)) left J L finds (upper .1 left J L finds half))) (c .before .before .own-row .ensures .1),
       omega arith,
     )
 
@@ -42,7 +42,7 @@ renew-raised-spec =
     (λ c κs. let pre = c .before .before .before .before .before .pre in (pre .0, pre .0 .0 .read-at, omega arith, inr (pre .2), omega (arith, pre .2, pre .3)))
     below-requires
     down-requires
-    own-requires
+    own-row-requires
     (λ c. search needs)
     (λ c. search needs)
     returns)

@@ -4,14 +4,14 @@ use mathlib.Core.Path.{_≡_, refl}
 use native.Mathlib.Omega.{arith}
 use borrow.Author.Needs.{needs}
 use lib.ListN.{length}
-use Rattle.sizes.proofs.CountTurns.{Halfway, sums-fit, sums-ordered, turn}
+use Rattle.sizes.proofs.CountTurns.{SizesCounted, sums-fit, sums-ordered, turn}
 use Rattle.sizes.proofs.tallies.finish.Statement.{statement}
 use Rattle.sizes.proofs.tallies.finish.Tie as tie
 
 abbrev Inv-loop : tie.InvT-loop
 Inv-loop counts₀ n reads s₀ m₀ counts s m =
     (m ≤ n) × (length counts ≡ length counts₀)
-    × Halfway counts₀ counts m reads (s .zeroth) (s .first) (s .second) (s .third) (s .fourth) (s .fifth)
+    × SizesCounted counts₀ counts m reads (s .zeroth) (s .first) (s .second) (s .third) (s .fourth) (s .fifth)
 
 abbrev μ-loop : tie.MeasureT-loop
 μ-loop counts₀ n reads s₀ m₀ counts s m = n - m

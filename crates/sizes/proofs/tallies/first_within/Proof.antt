@@ -1,4 +1,4 @@
--- `sizes::tallies::within` meets its contract. The loop's invariant: no stretch before `i` has a place up to `most`.
+-- `sizes::tallies::first_within` meets its contract. The loop's invariant: no stretch before `i` has a place up to `most`.
 use Prim.Native.Nat.{ℕ, _+_, _-_, _*_, _/_}
 use native.Mathlib.Omega.{arith}
 use borrow.Author.Needs.{needs}
@@ -7,8 +7,8 @@ use Rattle.card.specs.Falling.{Falling}
 use Rattle.sizes.specs.Lists.{Holds}
 use Rattle.sizes.specs.TallySteps.{Passed}
 use Rattle.sizes.proofs.TallyLists.{passed-more}
-use Rattle.sizes.proofs.tallies.within.Statement.{statement}
-use Rattle.sizes.proofs.tallies.within.Tie as tie
+use Rattle.sizes.proofs.tallies.first_within.Statement.{statement}
+use Rattle.sizes.proofs.tallies.first_within.Tie as tie
 
 abbrev Inv-loop : tie.InvT-loop
 Inv-loop list from most i₀ i = (J : ℕ → ℕ) (n : ℕ) → Falling J → Holds list J n → Passed J n most from → Passed J n most i
@@ -28,8 +28,8 @@ loop-again c = let l = c .before .before .before .loop in let a = c .before .bef
 returns-2 : tie.Need-returns-2 Inv-loop μ-loop
 returns-2 c = let i = c .before .loop .i in let list = c .before .before .args .list .now in let z = List·getD-eq-default list 0 {n = 2 * i + 1} (omega arith) in (omega arith, λ J n fall holds old. c .before .loop .inv J n fall holds old)
 
-pub within-spec : {M : Type 1} → statement M
-within-spec =
+pub first-within-spec : {M : Type 1} → statement M
+first-within-spec =
     tie.close
     (tie.spec
     Inv-loop

@@ -8,8 +8,8 @@ use Rattle.sizes.specs.Moves.{own}
 use Rattle.sizes.proofs.PairFacts.{pairs-own}
 use Rattle.sizes.proofs.Ways.{row-room}
 use Rattle.sizes.proofs.RowSteps.{emptied-row, own-row}
-use Rattle.sizes.proofs.renewals.own.Statement.{statement}
-use Rattle.sizes.proofs.renewals.own.Tie as tie
+use Rattle.sizes.proofs.renewals.own_row.Statement.{statement}
+use Rattle.sizes.proofs.renewals.own_row.Tie as tie
 
 returns : tie.Need-returns
 returns c =
@@ -39,8 +39,8 @@ returns-2 c =
           _ refl refl refl wi),
     )
 
-pub own-spec : {M : Type 1} → statement M
-own-spec =
+pub own-row-spec : {M : Type 1} → statement M
+own-row-spec =
     tie.close
     (tie.spec
     (λ c. search needs)
