@@ -5,9 +5,10 @@ use mathlib.Core.Logic.{_≢_}
 use mathlib.Core.List.{List, [], _∷_, _++_}
 use Prim.Native.Nat.{ℕ, zero, suc, _+_, _-_, _≤_, _<_, min}
 use native.Mathlib.Omega.{arith}
-use lib.Dec.{ltb, leb, eqb}
+use lib.Dec.{ltb, leb}
 use lib.ListN.{length, take}
 use Rattle.card.specs.Rule.{place, afterRead}
+use Rattle.card.specs.Moves.{takenOut, putIn}
 use Rattle.card.specs.State.{every, apart}
 use Rattle.card.proofs.Tests.{by-lt, by-eq, tests, and-both, both-and}
 use Rattle.card.proofs.Shifts.{out, put, out-lo, put-lo, put-hi, out-le}
@@ -69,13 +70,6 @@ module _ (test : ℕ → Bool) where
 -- after a read a test passes at every place, where it did before and does for the block
 pub every-after : (test : ℕ → Bool) (c : List ℕ) (x p : ℕ) → 1 ≤ p → test 0 ≡ true → test x ≡ true → every test c ≡ true → every test (afterRead c x p) ≡ true
 every-after test c x p h z t e = rw (two-moves c x p h) (every-moved test c x (p - 1) z t e)
-
--- a place l where the block at place j is taken out, and one is put in at p of m places
-abbrev pub takenOut : ℕ → ℕ → ℕ
-takenOut j l = cond (eqb j 0) l (cond (ltb j l) (l - 1) l)
-
-abbrev pub putIn : (p m l : ℕ) → ℕ
-putIn p m l = cond (ltb m p) l (cond (ltb l p) l (cond (ltb l m) (l + 1) 0))
 
 -- the place of the block that is read
 pub place-read : (c : List ℕ) (x p : ℕ) → 0 < x → 1 ≤ p → apart c ≡ true → place (afterRead c x p) x ≡ cond (leb p (length c)) p 0

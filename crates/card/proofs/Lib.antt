@@ -22,7 +22,6 @@ pub mod TotalBound
 pub mod ValidStates
 pub mod StepCounts
 pub mod Determined
-pub mod Spans
 pub mod Full
 pub mod Discards
 pub mod Lru

@@ -6,9 +6,10 @@ use mathlib.Core.List.{List, [], _∷_, _++_}
 use Prim.Native.Nat.{ℕ, _<_}
 use lib.Dec.{leb}
 use Rattle.terms.specs.Reads.{Read}
+use Rattle.card.specs.Moves.{takenOut, putIn}
 use Rattle.card.specs.Run.{blockRead, wanted, next, run, cardAfter}
 use Rattle.card.specs.Stretches.{placesOf}
-use Rattle.card.proofs.AfterRead.{takenOut, putIn, place-read, place-other}
+use Rattle.card.proofs.AfterRead.{place-read, place-other}
 use Rattle.card.proofs.Inclusion.{key-some, wanted-some, length-card, apart-card}
 
 -- one read more

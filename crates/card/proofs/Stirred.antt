@@ -9,11 +9,12 @@ use lib.Dec.{eqb}
 use lib.ListN.{length, getD}
 use Rattle.terms.specs.Reads.{Read}
 use Rattle.card.specs.Rule.{place, afterRead}
+use Rattle.card.specs.Moves.{putIn}
 use Rattle.card.specs.Run.{blockRead, wanted, cardAfter}
 use Rattle.card.specs.Stretches.{sumOver}
 use Rattle.card.proofs.Tests.{by-lt, by-eq, tests}
 use Rattle.card.proofs.Moves.{Apart, place-getD}
-use Rattle.card.proofs.AfterRead.{putIn, place-other}
+use Rattle.card.proofs.AfterRead.{place-other}
 use Rattle.card.proofs.Inclusion.{wanted-some, length-card, card-apart}
 use Rattle.card.proofs.Members.{among-rest, among-getD, sum-ones}
 

@@ -23,14 +23,14 @@ starts-here a b =
 
 module _ (f : ℕ → ℕ) (fall : Falling f) where
   -- absent: no stretch so far. present: twice the stretches, and the places that are left above it
-  record Sofar (n : ℕ) : Type 0 where
+  record Reached (n : ℕ) : Type 0 where
     none : f n ≡ 0 → stretches f n ≡ 0
     some : 0 < f n → 2 * stretches f n + f n ≤ n + 2
 
-  sofar : (n : ℕ) → Sofar n
-  sofar zero = record { none = λ a. refl; some = λ a. absurd (omega (arith, fall .fits 0)) }
-  sofar (suc n) =
-      let ih = sofar n in
+  reached : (n : ℕ) → Reached n
+  reached zero = record { none = λ a. refl; some = λ a. absurd (omega (arith, fall .fits 0)) }
+  reached (suc n) =
+      let ih = reached n in
       by-eq (f (suc n)) 0
       (λ a. record { none = λ c. simp tests (omega (arith, ih .none (by-eq (f n) 0 (λ b. b) (λ b. absurd (omega (arith, fall .falls n (omega arith))))))); some = λ c. absurd (omega arith) })
       (λ a. by-eq (f n) 0
@@ -40,10 +40,14 @@ module _ (f : ℕ → ℕ) (fall : Falling f) where
       (λ e. record { none = λ c. absurd (omega arith); some = λ c. simp tests (omega (arith, ih .some (omega arith), fall .falls n (omega arith))) })))
 
   pub stretches-none : (N : ℕ) → f N ≡ 0 → stretches f N ≡ 0
-  stretches-none N h = sofar N .none h
+  stretches-none N h = reached N .none h
 
-  falling-half : (N : ℕ) → stretches f N ≤ half N
-  falling-half N = by-eq (f N) 0 (λ a. omega (arith, sofar N .none a)) (λ a. omega (arith, sofar N .some (omega arith)))
+  -- the fewer stretches, the lower the block is in the largest card
+  pub falling-room : (N : ℕ) → 0 < f N → 2 * stretches f N + f N ≤ N + 2
+  falling-room N h = reached N .some h
+
+  pub falling-half : (N : ℕ) → stretches f N ≤ half N
+  falling-half N = by-eq (f N) 0 (λ a. omega (arith, reached N .none a)) (λ a. omega (arith, reached N .some (omega arith)))
 
 pub places-fall : (rs : List Read) (x : ℕ) → 0 < x → Falling (placesOf rs x)
 places-fall rs x z = record {
@@ -57,7 +61,7 @@ stretches-half rs x N z = falling-half (placesOf rs x) (places-fall rs x z) N
 
 -- and the fewer, the lower it is in the largest card
 pub stretches-room : (rs : List Read) (x N : ℕ) → 0 < x → 0 < placesOf rs x N → 2 * stretches (placesOf rs x) N + placesOf rs x N ≤ N + 2
-stretches-room rs x N z h = sofar (placesOf rs x) (places-fall rs x z) N .some h
+stretches-room rs x N z h = falling-room (placesOf rs x) (places-fall rs x z) N h
 
 -- blocks that are each present at some size up to N are at most N
 pub blocks-fit : (N : ℕ) (rs : List Read) (xs : List ℕ) → apart xs ≡ true

@@ -1,4 +1,5 @@
 pub mod Rule
+pub mod Moves
 pub mod Run
 pub mod Stretches
 pub mod Falling

@@ -7,11 +7,10 @@ use native.Mathlib.Omega.{arith}
 use native.Mathlib.Numerals.{add-one}
 use lib.Dec.{eqb}
 use Rattle.card.proofs.Tests.{by-lt, by-eq, tests}
-use Rattle.sizes.specs.Moves.{sourceOf}
+use Rattle.sizes.specs.Moves.{beforePutIn, beforeTakenOut, sourceOf}
 use Rattle.sizes.specs.Totals.{sumTo, mostTo}
 use Rattle.sizes.specs.Renewals.{movedOf}
 use Rattle.sizes.specs.Sweeps.{leftOf}
-use Rattle.sizes.proofs.RowLaws.{backOf, bumpOf}
 
 module _ (f g : ℕ → ℕ) where
   pub sum-same : (n : ℕ) → ((k : ℕ) → 1 ≤ k → k ≤ n → f k ≡ g k) → sumTo n f ≡ sumTo n g
@@ -40,35 +39,35 @@ most-under f (suc n) B h = omega (arith, most-under f n B (λ k a b. h k a (omeg
 
 module _ (g : ℕ → ℕ) where
   -- the place of the block read is passed over
-  passed : (j y : ℕ) → ((j ≡ 0) ⊎ (y < j) → sumTo y (λ x. g (bumpOf j x)) ≡ sumTo y g) × (0 < j → j ≤ y → sumTo y (λ x. g (bumpOf j x)) + g j ≡ sumTo (suc y) g)
+  passed : (j y : ℕ) → ((j ≡ 0) ⊎ (y < j) → sumTo y (λ x. g (beforeTakenOut j x)) ≡ sumTo y g) × (0 < j → j ≤ y → sumTo y (λ x. g (beforeTakenOut j x)) + g j ≡ sumTo (suc y) g)
   passed j zero = ((λ h. refl), λ a b. absurd (omega arith))
   passed j (suc y) = (
-    (λ h. let e : bumpOf j (suc y) ≡ suc y = ⊎-elim (λ (z : j ≡ 0). simp tests) (λ (lt : suc y < j). by-eq j 0 (λ z. simp tests) (λ ne. simp tests)) h in
+    (λ h. let e : beforeTakenOut j (suc y) ≡ suc y = ⊎-elim (λ (z : j ≡ 0). simp tests) (λ (lt : suc y < j). by-eq j 0 (λ z. simp tests) (λ ne. simp tests)) h in
         omega (arith, passed j y .0 (⊎-elim (λ z. inl z) (λ lt. inr (omega arith)) h), ap g e)),
     λ a b.
         let ne : j ≢ 0 = omega arith in
-        let e : bumpOf j (suc y) ≡ suc (suc y) = simp tests (omega arith) in
+        let e : beforeTakenOut j (suc y) ≡ suc (suc y) = simp tests (omega arith) in
         by-lt y j
         (λ lt. let ej : j ≡ suc y = omega arith in omega (arith, passed j y .0 (inr lt), ap g e, ap g ej))
         (λ ge. omega (arith, passed j y .1 a ge, ap g e)),
   )
 
   -- and so is the place where it is put in
-  skipped : (p m : ℕ) → 0 < p → (m < p → sumTo m (λ k. cond (eqb k p) 0 (g (backOf p k))) ≡ sumTo m g) × (p ≤ m → sumTo m (λ k. cond (eqb k p) 0 (g (backOf p k))) ≡ sumTo (m - 1) g)
+  skipped : (p m : ℕ) → 0 < p → (m < p → sumTo m (λ k. cond (eqb k p) 0 (g (beforePutIn p k))) ≡ sumTo m g) × (p ≤ m → sumTo m (λ k. cond (eqb k p) 0 (g (beforePutIn p k))) ≡ sumTo (m - 1) g)
   skipped p zero pos = ((λ h. refl), λ h. absurd (omega arith))
   skipped p (suc m) pos = (
     (λ h.
         let ne : suc m ≢ p = omega arith in
         let le : suc m ≤ p = omega arith in
-        let e : cond (eqb (suc m) p) 0 (g (backOf p (suc m))) ≡ g (suc m) = simp tests in
+        let e : cond (eqb (suc m) p) 0 (g (beforePutIn p (suc m))) ≡ g (suc m) = simp tests in
         omega (arith, skipped p m pos .0 (omega arith), e)),
     λ h.
         let s : suc m - 1 ≡ m = omega arith in
         by-eq (suc m) p
-        (λ ep. let e : cond (eqb (suc m) p) 0 (g (backOf p (suc m))) ≡ 0 = simp tests in
+        (λ ep. let e : cond (eqb (suc m) p) 0 (g (beforePutIn p (suc m))) ≡ 0 = simp tests in
         omega (arith, skipped p m pos .0 (omega arith), e, ap (λ (z : ℕ). sumTo z g) s))
         (λ ne. let lt : p < suc m = omega (arith, ne) in
-        let e : cond (eqb (suc m) p) 0 (g (backOf p (suc m))) ≡ g (suc m - 1) = simp tests in
+        let e : cond (eqb (suc m) p) 0 (g (beforePutIn p (suc m))) ≡ g (suc m - 1) = simp tests in
         omega (arith, skipped p m pos .1 (omega arith), e, ap g s, sum-last g m (omega arith), ap (λ (z : ℕ). sumTo z g) s)),
   )
 
@@ -76,7 +75,7 @@ module _ (g : ℕ → ℕ) where
 pub exchange : (count : ℕ → ℕ) (read n p j : ℕ) → 0 < p → 0 < n → j ≤ n → count (n + 1) ≡ 0 → (0 < j → count j ≡ read) → sumTo n count ≡ leftOf count read n p j + sumTo n (movedOf count p j)
 unfolding leftOf movedOf sourceOf
 exchange count read n p j pos some low past at-j =
-    let b : ℕ → ℕ = λ x. count (bumpOf j x) in
+    let b : ℕ → ℕ = λ x. count (beforeTakenOut j x) in
     let next : sumTo (suc n) count ≡ sumTo n count = omega (arith, past, ap count (add-one n)) in
     by-lt n p
     (λ h. by-eq j 0

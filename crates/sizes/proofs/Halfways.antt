@@ -12,7 +12,7 @@ use Rattle.sizes.specs.Sweeps.{RowsOf, Bound, Halfway, AllCounted}
 use Rattle.sizes.specs.declared.rows.Changes.{Changes}
 use Rattle.sizes.specs.declared.renewals.RowRead.{RowRead}
 use Rattle.sizes.proofs.RowLaws.{row-kept, rows-apart, source-near, source-lo}
-use Rattle.sizes.proofs.RowCounts.{stretches-none}
+use Rattle.sizes.proofs.RowCounts.{stretches-nowhere}
 use Rattle.sizes.proofs.Exchanges.{sum-last, most-over, most-under}
 
 module _ (read : RowRead) (left : ℕ) (J : ℕ → ℕ) (L : ℕ → ℕ → ℕ) where
@@ -47,7 +47,7 @@ module _ (read : RowRead) (left : ℕ) (J : ℕ → ℕ) (L : ℕ → ℕ → �
       (λ e. simp tests (omega arith))
       (λ ne. simp tests (by-lt (read .n) (sourceOf (read .p) (read .j) k)
       (λ past. let e : sourceOf (read .p) (read .j) k ≡ read .n + 1 = omega (arith, source-near (read .p) (read .j) k) in
-      omega (arith, stretches-none (L (sourceOf (read .p) (read .j) k)) (read .n) (λ m. ap (λ (z : ℕ). L z m) e ∙ fam .past m)))
+      omega (arith, stretches-nowhere (L (sourceOf (read .p) (read .j) k)) (read .n) (λ m. ap (λ (z : ℕ). L z m) e ∙ fam .past m)))
       (λ in-card. bound (sourceOf (read .p) (read .j) k) (omega (arith, source-lo (read .p) (read .j) k pos some)) in-card)))
 
   module _ (k : ℕ) (changes next : Changes) (area last : List ℕ) (pos : 0 < read .p) (some : 0 < k) (le : k ≤ read .n) (fam : Family L (read .n)) (re : Renewed read J L k changes next area last) where

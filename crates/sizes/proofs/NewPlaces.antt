@@ -12,7 +12,8 @@ use borrow.Author.Tests.{eq-eqb, ne-eqb}
 use Rattle.card.proofs.Moves.{depth, depth-there, getD-depth}
 use Rattle.card.proofs.Inclusion.{key-some, wanted-some}
 use Rattle.card.proofs.NextPlaces.{places-read, places-other}
-use Rattle.sizes.specs.Moves.{takenOut, putIn, otherAfter, own, sourceOf, newOf}
+use Rattle.card.specs.Moves.{takenOut, putIn}
+use Rattle.sizes.specs.Moves.{otherAfter, own, sourceOf, newOf}
 use Rattle.sizes.specs.Rows.{placesAt}
 use Rattle.sizes.proofs.PairLaws.{after-absent}
 use Rattle.card.proofs.StretchBounds.{places-fall}
@@ -92,13 +93,6 @@ module _ (p j n : ℕ) (one : 1 ≤ p) (in-card : j ≤ n) where
 
 -- ---- what stands there after the read
 
--- a block that is absent and is not read stays absent
-none-stays : (j p m : ℕ) → 1 ≤ p → putIn p m (takenOut j 0) ≡ 0
-none-stays j p m one = rw out (by-lt m p (λ h. simp tests) (λ h. simp tests))
-  where
-    out : takenOut j 0 ≡ 0
-    out = by-eq j 0 (λ e. simp tests) (λ e. by-lt j 0 (λ h. absurd (omega arith)) (λ h. simp tests))
-
 -- a block stands in the largest card where its place says
 pub key-here : (rs : List Read) (n x i : ℕ) → placesOf rs x n ≡ suc i → keyAt rs n i ≡ x
 key-here rs n x i e =
@@ -148,7 +142,7 @@ module _ (rs : List Read) (r : Read) (n : ℕ) where
         let at-n : placesOf more y n ≡ suc i = ap (λ (w : ℕ). placesOf more w n) (sym e) ∙ key-place more n i (λ q. z (sym e ∙ q)) .1 in
         let diff : y ≢ blockRead r = λ q. not-read (ap (λ (w : ℕ). placesOf more w n) (sym q) ∙ at-n) in
         let there : putIn (wanted r) n (takenOut (readPlaces n) (placesOf rs y n)) ≡ suc i = sym (places-other rs r n y (omega arith) diff) ∙ at-n in
-        let present : 1 ≤ placesOf rs y n = by-eq (placesOf rs y n) 0 (λ q. absurd (omega (arith, rw q at there, none-stays (readPlaces n) (wanted r) n (wanted-some r)))) (λ q. omega arith) in
+        let present : 1 ≤ placesOf rs y n = by-eq (placesOf rs y n) 0 (λ q. absurd (omega (arith, sym there ∙ after-absent readPlaces (wanted r) (placesOf rs y) n (wanted-some r) q))) (λ q. omega arith) in
         let apart : placesOf rs y n ≢ readPlaces n = λ q. diff (sym (key-here rs n y (placesOf rs y n - 1) (omega arith)) ∙ key-here rs n (blockRead r) (placesOf rs y n - 1) (omega arith)) in
         let source = source-to (wanted r) (readPlaces n) n (wanted-some r) (places-fall rs (blockRead r) (key-some r) .fits n) (placesOf rs y n) (suc i) present (places-fall rs y (omega arith) .fits n) apart (omega arith) there .1 in
         let fam : family rs n (sourceOf (wanted r) (readPlaces n) (suc i)) m ≡ placesOf rs y m = ap (λ (q : ℕ). family rs n q m) (sym source) ∙ family-at rs n y (z) present m in

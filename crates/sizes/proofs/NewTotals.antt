@@ -17,8 +17,8 @@ use Rattle.sizes.specs.Moves.{newOf}
 use Rattle.sizes.specs.Rows.{placesAt}
 use Rattle.sizes.specs.Totals.{Totals, sumTo, mostTo}
 use Rattle.sizes.proofs.PairLists.{stretches-same}
-use Rattle.sizes.proofs.RowCounts.{stretches-none}
-use Rattle.sizes.proofs.Exchanges.{sum-same, most-same}
+use Rattle.sizes.proofs.RowCounts.{stretches-nowhere}
+use Rattle.sizes.proofs.Exchanges.{sum-same, most-same, most-over}
 use Rattle.sizes.proofs.Families.{keyAt, family, placed, unplaced}
 use Rattle.sizes.proofs.NewPlaces.{new-places}
 
@@ -60,7 +60,7 @@ module _ (n : ℕ) (rs : List Read) where
   own-stretches (suc i) h =
       let e : suc i - 1 ≡ i = omega arith in
       rw e (by-eq (keyAt rs n i) 0
-      (λ z. simp tests (sym (stretches-none (placesAt rs n i) n (unplaced rs n i z))))
+      (λ z. simp tests (sym (stretches-nowhere (placesAt rs n i) n (unplaced rs n i z))))
       (λ z. simp tests (stretches-same (placesOf rs (keyAt rs n i)) (placesAt rs n i) n (λ m a. sym (placed rs n i z m)))))
 
   abbrev own : ℕ → ℕ
@@ -104,10 +104,6 @@ unfolding total
 total-peak n [] = omega arith
 total-peak n (r ∷ rs) = peak-last (total n) [] r rs
 
-most-term : (n : ℕ) (f : ℕ → ℕ) (k : ℕ) → 1 ≤ k → k ≤ n → f k ≤ mostTo n f
-most-term zero f k a b = absurd (omega arith)
-most-term (suc n) f k a b = by-eq k (suc n) (λ e. rw e (omega arith)) (λ e. omega (arith, most-term n f k a (omega arith)))
-
 -- ---- one read more
 
 module _ (n : ℕ) (rs : List Read) (r : Read) where
@@ -119,7 +115,7 @@ module _ (n : ℕ) (rs : List Read) (r : Read) where
   changed-is (suc i) a b = stretches-same _ _ n (λ m h. sym (new-places rs r n i (omega arith) m))
 
   pub old-low : (k : ℕ) → 1 ≤ k → k ≤ n → stretches (family rs n k) n ≤ peakOfOne n rs
-  old-low k a b = omega (arith, most-term n (λ q. stretches (family rs n q) n) k a b, most-family n rs, most-peak n rs)
+  old-low k a b = omega (arith, most-over (λ q. stretches (family rs n q) n) n k a b, most-family n rs, most-peak n rs)
 
   pub totals-more : (now most one gained lost longest : ℕ) → Totals n rs now most one
       → gained + sumTo n (λ k. stretches (family rs n k) n) ≡ lost + sumTo n changed
@@ -145,10 +141,10 @@ sum-low zero b f h = omega arith
 sum-low (suc n) b f h = omega (arith, sum-low n b f (λ k p q. h k p (omega arith)), h (suc n) (omega arith) (omega arith))
 
 family-half : (n : ℕ) (rs : List Read) (k : ℕ) → stretches (family rs n k) n ≤ half n
-family-half n rs zero = omega (arith, stretches-none (family rs n zero) n (λ m. refl))
+family-half n rs zero = omega (arith, stretches-nowhere (family rs n zero) n (λ m. refl))
 family-half n rs (suc i) =
     by-eq (keyAt rs n i) 0
-    (λ e. omega (arith, stretches-none (placesAt rs n i) n (unplaced rs n i e)))
+    (λ e. omega (arith, stretches-nowhere (placesAt rs n i) n (unplaced rs n i e)))
     (λ e. omega (arith, stretches-half rs (keyAt rs n i) n (omega arith), stretches-same (placesAt rs n i) (placesOf rs (keyAt rs n i)) n (λ m a. placed rs n i e m)))
 
 pub total-low : (n : ℕ) (rs : List Read) → total n rs ≤ n * half n

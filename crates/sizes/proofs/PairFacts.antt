@@ -2,33 +2,34 @@
 use mathlib.Core.Path.{_≡_, sym, ap, _∙_}
 use mathlib.Core.Logic.{⊎-elim}
 use mathlib.Core.List.{List, [], _∷_, _++_}
-use Prim.Native.Nat.{ℕ, zero, suc, _+_, _-_, _≤_, _<_}
+use Prim.Native.Nat.{ℕ, zero, suc, _+_, _-_, _*_, _≤_, _<_}
 use native.Mathlib.Omega.{arith}
 use native.Mathlib.Decide.{le-ind}
 use lib.ListN.{length, getD, length-append, List·getD-eq-default}
 use borrow.Author.Tests.{le-leb, lt-leb, eq-eqb, ne-eqb}
 use Rattle.card.specs.Stretches.{starts, stretches}
 use Rattle.card.specs.Falling.{Falling}
+use Rattle.card.proofs.StretchBounds.{falling-half}
 use Rattle.sizes.specs.Moves.{own}
 use Rattle.sizes.specs.Rows.{pairs, rowLength}
 use Rattle.sizes.specs.Lists.{Ends}
-use Rattle.sizes.proofs.PairLaws.{level-pairs, start-s, lt-cases, eq-cases, pairs-cases, pairs-zero, prefix, room-le, start-at}
+use Rattle.sizes.proofs.PairLaws.{level-pairs, start-s, lt-cases, eq-cases, pairs-cases, pairs-zero, prefix, start-at}
 
 -- two entries for each stretch
-pub two : (R : ℕ → ℕ) (n : ℕ) → length (pairs R n) ≡ stretches R n + stretches R n
-two R zero = ap length (pairs-zero R)
-two R (suc n) =
+pub length-pairs : (R : ℕ → ℕ) (n : ℕ) → length (pairs R n) ≡ 2 * stretches R n
+length-pairs R zero = ap length (pairs-zero R)
+length-pairs R (suc n) =
     ⊎-elim
-    (λ w. ap length (w .1) ∙ two R n ∙ ⊎-elim (λ z. simp (eq-eqb (R (suc n)) 0 z) (omega arith)) (λ z. flat z) (w .0))
-    (λ w. ap length (w .2) ∙ length-append (pairs R n) (suc n ∷ R (suc n) ∷ []) ∙ simp (ne-eqb (R (suc n)) 0 (λ z. omega arith), ne-eqb (R (suc n)) (R n) (λ z. w .1 (sym z))) (omega (arith, two R n)))
+    (λ w. ap length (w .1) ∙ length-pairs R n ∙ ⊎-elim (λ z. simp (eq-eqb (R (suc n)) 0 z) (omega arith)) (λ z. flat z) (w .0))
+    (λ w. ap length (w .2) ∙ length-append (pairs R n) (suc n ∷ R (suc n) ∷ []) ∙ simp (ne-eqb (R (suc n)) 0 (λ z. omega arith), ne-eqb (R (suc n)) (R n) (λ z. w .1 (sym z))) (omega (arith, length-pairs R n)))
     (pairs-cases R n)
   where
-    flat : R n ≡ R (suc n) → stretches R n + stretches R n ≡ stretches R n + starts (R n) (R (suc n)) + (stretches R n + starts (R n) (R (suc n)))
+    flat : R n ≡ R (suc n) → 2 * stretches R n ≡ 2 * (stretches R n + starts (R n) (R (suc n)))
     flat z = ⊎-elim (λ y. simp (eq-eqb (R (suc n)) 0 y) (omega arith)) (λ y. simp (ne-eqb (R (suc n)) 0 y, eq-eqb (R (suc n)) (R n) (sym z)) (omega arith)) (eq-cases (R (suc n)) 0)
 
 -- a row has room
 pub pairs-fit : (R : ℕ → ℕ) (n : ℕ) → Falling R → length (pairs R n) ≤ rowLength n
-pairs-fit R n good = omega (arith, two R n, room-le R good n)
+pairs-fit R n good = omega (arith, length-pairs R n, falling-half R good n)
 
 -- Once present, present at each larger size, and no lower.
 pub falls : (R : ℕ → ℕ) → Falling R → (m k : ℕ) → m ≤ k → 0 < R m → (0 < R k) × (R k ≤ R m)

@@ -13,7 +13,8 @@ use borrow.Author.Tests.{lt-ltb, le-ltb, eq-eqb, ne-eqb}
 use Rattle.card.specs.Stretches.{starts}
 use Rattle.card.proofs.Tests.{by-lt, by-eq}
 use Rattle.card.specs.Falling.{Falling}
-use Rattle.sizes.specs.Moves.{takenOut, putIn, otherAfter}
+use Rattle.card.specs.Moves.{takenOut, putIn}
+use Rattle.sizes.specs.Moves.{otherAfter}
 use Rattle.sizes.specs.Rows.{pairs}
 use Rattle.sizes.specs.Lists.{Holds, Begins, At, Level, ListedUpTo, nextSize}
 
@@ -134,26 +135,6 @@ hold R n s good m h =
   where
     gone : (k : ℕ) → R (suc k) ≡ 0 → R k ≡ R s → R (suc k) ≡ R s
     gone k z e = ⊎-elim (λ pos. absurd (omega (arith, good .falls k pos .0))) (λ le. omega arith) (lt-cases 0 (R k))
-
--- There is room: at most one entry for each size, and one more.
-pub room : (R : ℕ → ℕ) → Falling R → (m : ℕ) → (R m ≡ 0 → length (pairs R m) ≡ 0) × (0 < R m → length (pairs R m) + R m ≤ m + 2)
-room R good zero = (λ _. ap length (pairs-zero R), λ h. absurd (omega (arith, good .fits 0)))
-room R good (suc m) =
-    ⊎-elim
-    (λ w. let e = ap length (w .1) in ⊎-elim
-    (λ z. (λ _. e ∙ room R good m .0 (⊎-elim (λ pos. absurd (omega (arith, good .falls m pos .0))) (λ le. omega arith) (lt-cases 0 (R m))), λ h. absurd (omega arith)))
-    (λ z. (λ h. e ∙ room R good m .0 (omega arith), λ h. omega (arith, e, room R good m .1 (omega arith))))
-    (w .0))
-    (λ w. let e : length (pairs R (suc m)) ≡ length (pairs R m) + 2 = ap length (w .2) ∙ length-append (pairs R m) (suc m ∷ R (suc m) ∷ []) in (
-      λ h. absurd (omega arith),
-      λ h. ⊎-elim (λ pos. omega (arith, good .falls m pos .1, room R good m .1 pos, w .1))
-          (λ le. omega (arith, room R good m .0 (omega arith), good .fits (suc m)))
-          (lt-cases 0 (R m)),
-    ))
-    (pairs-cases R m)
-
-pub room-le : (R : ℕ → ℕ) → Falling R → (m : ℕ) → length (pairs R m) ≤ m + 1
-room-le R good m = ⊎-elim (λ pos. omega (arith, room R good m .1 pos)) (λ le. omega (arith, room R good m .0 (omega arith))) (lt-cases 0 (R m))
 
 -- Where R is level, nothing is added.
 pub level-pairs : (R : ℕ → ℕ) (s e : ℕ) → s ≤ e → Level R s e → pairs R e ≡ pairs R s

@@ -9,11 +9,12 @@ use lib.Seq.{getD-set-same, getD-set-other}
 use Rattle.card.specs.Stretches.{stretches}
 use Rattle.card.specs.Falling.{Falling}
 use Rattle.card.proofs.Tests.{by-lt, by-eq}
-use Rattle.sizes.specs.Moves.{takenOut, putIn, otherAfter, Raised}
+use Rattle.card.specs.Moves.{takenOut, putIn}
+use Rattle.sizes.specs.Moves.{otherAfter, Raised}
 use Rattle.sizes.specs.Rows.{pairs, rowLength, Row}
 use Rattle.sizes.specs.Renewals.{Kept}
 use Rattle.sizes.proofs.PairLaws.{taken-cases, put-low, pairs-zero, pairs-flat, pairs-start, pairs-cases, after-absent}
-use Rattle.sizes.proofs.PairFacts.{two, pairs-fit, falls, entries, in-list}
+use Rattle.sizes.proofs.PairFacts.{length-pairs, pairs-fit, falls, entries, in-list}
 use Rattle.sizes.proofs.RowLaws.{kept-same}
 use Rattle.sizes.proofs.RowSkips.{first-bound}
 
@@ -70,7 +71,7 @@ pairs-lessened R S (suc n) up =
     pairs-start R n (omega (arith, here, start .0)) (λ z. start .1 (omega (arith, here, before, start .0)))
     ∙ ap (λ (l : List ℕ). l ++ (suc n ∷ R (suc n) ∷ [])) so-far
     ∙ ap (λ (k : ℕ). lessened (pairs S n) ++ (suc n ∷ k ∷ [])) (here .0)
-    ∙ sym (lessened-append (stretches S n) (pairs S n) (suc n ∷ S (suc n) ∷ []) (two S n))
+    ∙ sym (lessened-append (stretches S n) (pairs S n) (suc n ∷ S (suc n) ∷ []) (omega (arith, length-pairs S n)))
     ∙ sym (ap lessened (start .2)))
     (pairs-cases S n)
 
@@ -79,7 +80,7 @@ module _ (R S : ℕ → ℕ) (n : ℕ) (up : Raised R S n) where
   raised-length = ap length (pairs-lessened R S n up) ∙ lessened-length (pairs S n)
 
   pub raised-stretches : stretches R n ≡ stretches S n
-  raised-stretches = omega (arith, two R n, two S n, raised-length)
+  raised-stretches = omega (arith, length-pairs R n, length-pairs S n, raised-length)
 
   raised-first : (i : ℕ) → getD (pairs R n) (2 * i) 0 ≡ getD (pairs S n) (2 * i) 0
   raised-first i = ap (λ (l : List ℕ). getD l (2 * i) 0) (pairs-lessened R S n up) ∙ rw (sym (twice-is i)) (first-same (pairs S n) i)
@@ -157,7 +158,7 @@ module _ (area₀ area : List ℕ) (from at width h : ℕ) (raising : Raising ar
 
     most : length (pairs S n) ≤ 2 * h
     most = by-lt (2 * h) (length (pairs S n))
-        (λ more. absurd (omega (arith, entries S n (2 * h + 1) (omega (arith, two S n)), entry (2 * h + 1) (from + 2 * h + 1) (omega arith) (omega (arith, two S n, pairs-fit S n fall)), end (omega (arith, two S n, pairs-fit S n fall)))))
+        (λ more. absurd (omega (arith, entries S n (2 * h + 1) (omega (arith, length-pairs S n)), entry (2 * h + 1) (from + 2 * h + 1) (omega arith) (omega (arith, length-pairs S n, pairs-fit S n fall)), end (omega (arith, length-pairs S n, pairs-fit S n fall)))))
         (λ le. le)
 
     pub raising-all : (2 * h ≡ length (pairs R n)) × ((q : ℕ) → q < 2 * h → getD area (at + q) 0 ≡ getD (pairs R n) q 0)

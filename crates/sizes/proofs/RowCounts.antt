@@ -9,17 +9,17 @@ use Rattle.card.proofs.Tests.{by-lt, tests}
 use Rattle.sizes.specs.Moves.{Family}
 use Rattle.sizes.specs.Rows.{pairs}
 use Rattle.sizes.specs.Sweeps.{leftOf}
-use Rattle.sizes.proofs.PairLaws.{room}
-use Rattle.sizes.proofs.PairFacts.{two, entries}
+use Rattle.card.proofs.StretchBounds.{falling-room}
+use Rattle.sizes.proofs.PairFacts.{length-pairs, entries}
 use Rattle.sizes.proofs.RowLaws.{pairs-none}
 
 -- a block that is nowhere
-pub stretches-none : (R : ℕ → ℕ) (n : ℕ) → ((m : ℕ) → R m ≡ 0) → stretches R n ≡ 0
-stretches-none R n none = omega (arith, two R n, ap length (pairs-none R n none))
+pub stretches-nowhere : (R : ℕ → ℕ) (n : ℕ) → ((m : ℕ) → R m ≡ 0) → stretches R n ≡ 0
+stretches-nowhere R n none = omega (arith, length-pairs R n, ap length (pairs-none R n none))
 
 -- a list's stretches, by its entries
 pub stretches-entries : (R : ℕ → ℕ) (n x : ℕ) → x ≡ length (pairs R n) → x / 2 ≡ stretches R n
-stretches-entries R n x e = omega (arith, two R n)
+stretches-entries R n x e = omega (arith, length-pairs R n)
 
 -- what leaves
 module _ (J : ℕ → ℕ) (L : ℕ → ℕ → ℕ) (n p j : ℕ) where
@@ -38,7 +38,7 @@ module _ (J : ℕ → ℕ) (L : ℕ → ℕ → ℕ) (n p j : ℕ) where
   unfolding leftOf
   left-none z h e =
       let none : length (pairs (L n) n) ≡ 0 = by-lt 0 (length (pairs (L n) n)) (λ lt. absurd (omega (arith, entries (L n) n 0 lt))) (λ le. omega arith) in
-      simp tests (omega (arith, two (L n) n))
+      simp tests (omega (arith, length-pairs (L n) n))
 
   -- a block at the last place has one stretch
   pub left-last : (j ≡ 0) → p ≤ n → 0 < n → Family L n → getD (pairs (L n) n) 0 0 ≢ 0 → Left 1
@@ -46,7 +46,7 @@ module _ (J : ℕ → ℕ) (L : ℕ → ℕ → ℕ) (n p j : ℕ) where
   left-last z h pos fam ne =
       let some : 0 < length (pairs (L n) n) = by-lt 0 (length (pairs (L n) n)) (λ lt. lt) (λ le. absurd (ne (List·getD-eq-default (pairs (L n) n) 0 {n = 0} (omega arith)))) in
       let one : stretches (L n) n ≡ 1 = ⊎-elim
-      (λ e. omega (arith, two (L n) n, room (L n) (fam .good n) n .1 (omega arith)))
+      (λ e. omega (arith, length-pairs (L n) n, falling-room (L n) (fam .good n) n (omega arith)))
       (λ none. absurd (omega (arith, ap length (pairs-none (L n) n none))))
       (fam .last n) in
       simp tests (omega arith)

@@ -6,12 +6,11 @@ use Prim.Native.Nat.{ℕ, _+_, _-_, _*_, _≤_, _<_}
 use native.Mathlib.Omega.{arith}
 use native.Mathlib.Nat.{suc-mul, mul-le-mul-left, mul-le-mul-right}
 use native.Mathlib.Numerals.{add-one}
-use mathlib.Core.Bool.{true, false, cond}
-use lib.Dec.{eqb, ltb}
+use mathlib.Core.Bool.{true, false}
 use lib.ListN.{getD}
 use borrow.Author.Tests.{lt-ltb, le-ltb, eq-eqb, ne-eqb}
 use Rattle.card.proofs.Tests.{bit}
-use Rattle.sizes.specs.Moves.{otherAfter, own, sourceOf, newOf}
+use Rattle.sizes.specs.Moves.{otherAfter, own, beforePutIn, beforeTakenOut, sourceOf, newOf}
 use Rattle.sizes.specs.Rows.{pairs, Row}
 use Rattle.sizes.specs.Renewals.{Kept}
 use Rattle.sizes.proofs.PairLaws.{lt-cases, eq-cases, level-pairs, pairs-zero, after-absent}
@@ -20,22 +19,16 @@ use Rattle.sizes.proofs.PairLaws.{lt-cases, eq-cases, level-pairs, pair
 pub pairs-none : (R : ℕ → ℕ) (n : ℕ) → ((m : ℕ) → R m ≡ 0) → pairs R n ≡ []
 pairs-none R n h = level-pairs R 0 n (omega arith) (λ m a b. h m ∙ sym (h 0)) ∙ pairs-zero R
 
--- the two steps back to where a block comes from
-abbrev pub backOf : (p k : ℕ) → ℕ
-backOf p k = cond (ltb p k) (k - 1) k
-
-abbrev pub bumpOf : (j x : ℕ) → ℕ
-bumpOf j x = cond (eqb j 0) x (cond (ltb x j) x (x + 1))
-
-back-near : (p k : ℕ) → (k ≤ backOf p k + 1) × (backOf p k ≤ k)
+-- The two steps back to where a block comes from are short.
+back-near : (p k : ℕ) → (k ≤ beforePutIn p k + 1) × (beforePutIn p k ≤ k)
 back-near p k = ⊎-elim (λ lt. simp (lt-ltb p k lt) (omega arith)) (λ ge. simp (le-ltb p k ge) (omega arith)) (lt-cases p k)
 
-bump-near : (j x : ℕ) → (x ≤ bumpOf j x) × (bumpOf j x ≤ x + 1)
+bump-near : (j x : ℕ) → (x ≤ beforeTakenOut j x) × (beforeTakenOut j x ≤ x + 1)
 bump-near j x = ⊎-elim (λ e. simp (eq-eqb j 0 e) (omega arith)) (λ ne. ⊎-elim (λ lt. simp (ne-eqb j 0 ne, lt-ltb x j lt) (omega arith)) (λ ge. simp (ne-eqb j 0 ne, le-ltb x j ge) (omega arith)) (lt-cases x j)) (eq-cases j 0)
 
 pub source-near : (p j k : ℕ) → (k ≤ sourceOf p j k + 1) × (sourceOf p j k ≤ k + 1)
 unfolding sourceOf
-source-near p j k = omega (arith, back-near p k, bump-near j (backOf p k))
+source-near p j k = omega (arith, back-near p k, bump-near j (beforePutIn p k))
 
 pub new-own : (J : ℕ → ℕ) (p j : ℕ) (L : ℕ → ℕ → ℕ) (k : ℕ) → k ≡ p → newOf J p j L k ≡ own p
 unfolding newOf
@@ -48,7 +41,7 @@ new-other J p j L k e = simp (ne-eqb k p e)
 pub row-eq : (area : List ℕ) (a w n : ℕ) (R S : ℕ → ℕ) → S ≡ R → Row area a w (pairs R n) → Row area a w (pairs S n)
 row-eq area a w n R S e s q h = s q h ∙ ap (λ (F : ℕ → ℕ). getD (pairs F n) q 0) (sym e)
 
--- A slot below, or from there on, is as it was.
+-- A row below, or from there on, is as it was.
 pub row-kept : (area last : List ℕ) (a w b n : ℕ) (R : ℕ → ℕ) → Kept area last a w → (b + w ≤ a) ⊎ (a + w ≤ b) → Row area b w (pairs R n) → Row last b w (pairs R n)
 row-kept area last a w b n R k d s q h = ⊎-elim (λ lo. k .below (b + q) (omega arith)) (λ hi. k .above (b + q) (omega arith)) d ∙ s q h
 
@@ -83,18 +76,18 @@ base-le k y w h = omega (arith, next-base k w, mul-le-mul-right w (add-le k y h)
     add-le : (k y : ℕ) → k < y → k + 1 ≤ y
     add-le k y h = omega arith
 
-back-lo : (p k : ℕ) → 0 < p → 0 < k → 0 < backOf p k
+back-lo : (p k : ℕ) → 0 < p → 0 < k → 0 < beforePutIn p k
 back-lo p k hp hk = ⊎-elim (λ lt. simp (lt-ltb p k lt) (omega arith)) (λ ge. simp (le-ltb p k ge) hk) (lt-cases p k)
 
 pub source-lo : (p j k : ℕ) → 0 < p → 0 < k → 0 < sourceOf p j k
 unfolding sourceOf
-source-lo p j k hp hk = omega (arith, back-lo p k hp hk, bump-near j (backOf p k))
+source-lo p j k hp hk = omega (arith, back-lo p k hp hk, bump-near j (beforePutIn p k))
 
 -- The ways of going back.
-back-cases : (p k : ℕ) → ((p < k) × (backOf p k ≡ k - 1)) ⊎ ((k ≤ p) × (backOf p k ≡ k))
+back-cases : (p k : ℕ) → ((p < k) × (beforePutIn p k ≡ k - 1)) ⊎ ((k ≤ p) × (beforePutIn p k ≡ k))
 back-cases p k = ⊎-elim (λ h. inl (h, simp (lt-ltb p k h))) (λ h. inr (h, simp (le-ltb p k h))) (lt-cases p k)
 
-bump-cases : (j x : ℕ) → ((j ≡ 0) × (bumpOf j x ≡ x)) ⊎ (((0 < j) × (x < j) × (bumpOf j x ≡ x)) ⊎ ((0 < j) × (j ≤ x) × (bumpOf j x ≡ x + 1)))
+bump-cases : (j x : ℕ) → ((j ≡ 0) × (beforeTakenOut j x ≡ x)) ⊎ (((0 < j) × (x < j) × (beforeTakenOut j x ≡ x)) ⊎ ((0 < j) × (j ≤ x) × (beforeTakenOut j x ≡ x + 1)))
 bump-cases j x =
     ⊎-elim (λ e. inl (e, simp (eq-eqb j 0 e)))
     (λ ne. inr (⊎-elim (λ h. inl (omega arith, h, simp (ne-eqb j 0 ne, lt-ltb x j h))) (λ h. inr (omega arith, h, simp (ne-eqb j 0 ne, le-ltb x j h))) (lt-cases x j)))
@@ -106,20 +99,20 @@ module _ (p j k : ℕ) where
   unfolding sourceOf
   source-above h at =
       ⊎-elim (λ a. absurd (omega arith))
-      (λ a. ⊎-elim (λ b. omega arith) (⊎-elim (λ b. omega arith) (λ b. absurd (⊎-elim (λ z. omega arith) (λ z. omega arith) at))) (bump-cases j (backOf p k)))
+      (λ a. ⊎-elim (λ b. omega arith) (⊎-elim (λ b. omega arith) (λ b. absurd (⊎-elim (λ z. omega arith) (λ z. omega arith) at))) (bump-cases j (beforePutIn p k)))
       (back-cases p k)
 
   pub source-below : 0 < j → j < k → p < k → sourceOf p j k ≡ k
   unfolding sourceOf
   source-below pos at h =
-      ⊎-elim (λ a. ⊎-elim (λ b. omega arith) (⊎-elim (λ b. omega arith) (λ b. omega arith)) (bump-cases j (backOf p k)))
+      ⊎-elim (λ a. ⊎-elim (λ b. omega arith) (⊎-elim (λ b. omega arith) (λ b. omega arith)) (bump-cases j (beforePutIn p k)))
       (λ a. absurd (omega arith))
       (back-cases p k)
 
   pub source-down : p < k → (j ≡ 0) ⊎ (k ≤ j) → sourceOf p j k ≡ k - 1
   unfolding sourceOf
   source-down h at =
-      ⊎-elim (λ a. ⊎-elim (λ b. omega arith) (⊎-elim (λ b. omega arith) (λ b. absurd (⊎-elim (λ z. omega arith) (λ z. omega arith) at))) (bump-cases j (backOf p k)))
+      ⊎-elim (λ a. ⊎-elim (λ b. omega arith) (⊎-elim (λ b. omega arith) (λ b. absurd (⊎-elim (λ z. omega arith) (λ z. omega arith) at))) (bump-cases j (beforePutIn p k)))
       (λ a. absurd (omega arith))
       (back-cases p k)
 
@@ -127,7 +120,7 @@ module _ (p j k : ℕ) where
   unfolding sourceOf
   source-up h pos at =
       ⊎-elim (λ a. absurd (omega arith))
-      (λ a. ⊎-elim (λ b. omega arith) (⊎-elim (λ b. omega arith) (λ b. omega arith)) (bump-cases j (backOf p k)))
+      (λ a. ⊎-elim (λ b. omega arith) (⊎-elim (λ b. omega arith) (λ b. omega arith)) (bump-cases j (beforePutIn p k)))
       (back-cases p k)
 
 -- A block that is nowhere stays so.

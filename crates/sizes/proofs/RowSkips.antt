@@ -5,10 +5,11 @@ use Prim.Native.Nat.{ℕ, _-_, _≤_, _<_}
 use native.Mathlib.Omega.{arith}
 use lib.ListN.{length, getD}
 use Rattle.card.specs.Falling.{Falling}
-use Rattle.sizes.specs.Moves.{takenOut, putIn, otherAfter}
+use Rattle.card.specs.Moves.{takenOut, putIn}
+use Rattle.sizes.specs.Moves.{otherAfter}
 use Rattle.sizes.specs.Rows.{pairs}
 use Rattle.sizes.proofs.PairLaws.{lt-cases, taken-cases, taken-le, put-low, put-high, hold, moves, pairs-zero}
-use Rattle.sizes.proofs.PairFacts.{two, falls, entries, in-list}
+use Rattle.sizes.proofs.PairFacts.{length-pairs, falls, entries, in-list}
 
 -- Where a block is present, the first size of its list has come, and the first place is no higher.
 pub first-bound : (R : ℕ → ℕ) (n m : ℕ) → Falling R → m ≤ n → 0 < R m → (0 < getD (pairs R n) 0 0) × (getD (pairs R n) 0 0 ≤ m) × (getD (pairs R n) 1 0 ≡ R (getD (pairs R n) 0 0)) × (R m ≤ getD (pairs R n) 1 0) × (0 < length (pairs R n))
@@ -22,7 +23,7 @@ first-bound R n m good hm pos =
     let hl : 0 < length (pairs R n) = in-list R n 0 hc in
     let none : length (pairs R (c - 1)) ≡ 0 = hold R n 0 good (c - 1) (omega arith) (omega arith) (inr (omega arith)) .0 ∙ e0 in
     let place : getD (pairs R n) 1 0 ≡ R c = moves R n (c - 1) 0 (omega arith) (sym none) (omega arith) .1 ∙ ap R (omega arith) in
-    (hc, cm, place, omega (arith, place, falls R good c m cm (omega (arith, place, entries R n 1 (omega (arith, two R n)))) .1), hl)
+    (hc, cm, place, omega (arith, place, falls R good c m cm (omega (arith, place, entries R n 1 (omega (arith, length-pairs R n)))) .1), hl)
 
 -- A block that is at size n or nowhere, and has an empty list, is nowhere.
 pub nowhere : (R : ℕ → ℕ) (n : ℕ) → Falling R → (0 < R n) ⊎ ((m : ℕ) → R m ≡ 0) → getD (pairs R n) 0 0 ≡ 0 → (m : ℕ) → R m ≡ 0

@@ -13,9 +13,9 @@ use Rattle.sizes.specs.Renewals.{Kept, Carried, CarriedNone, Merged, Tog
 use Rattle.sizes.specs.declared.rows.Changes.{Changes}
 use Rattle.sizes.specs.declared.renewals.RowRead.{RowRead}
 use Rattle.sizes.proofs.PairLists.{pairs-same, stretches-same}
-use Rattle.sizes.proofs.PairFacts.{two, pairs-own}
+use Rattle.sizes.proofs.PairFacts.{length-pairs, pairs-own}
 use Rattle.sizes.proofs.RowLaws.{kept-same, pairs-none, after-none, row-first, row-eq, new-own, new-other, source-up}
-use Rattle.sizes.proofs.RowCounts.{stretches-none}
+use Rattle.sizes.proofs.RowCounts.{stretches-nowhere}
 use Rattle.sizes.proofs.Ways.{Way}
 
 -- the same row under another index
@@ -139,7 +139,7 @@ emptied-row read J L changes area last fits past present within fam kept zeros =
     let gone = after-none J (read .p) (L (read .n + 1)) (fits .read-at) none in
     carried-row read (λ e. omega arith) (sym (source-up (read .p) (read .j) (read .n) past present within)) J L changes area last kept
     (λ q h. zeros q h ∙ sym (ap (λ (l : List ℕ). getD l q 0) (pairs-none (otherAfter J (read .p) (L (read .n + 1))) (read .n) gone)))
-    (stretches-none (otherAfter J (read .p) (L (read .n + 1))) (read .n) gone ∙ sym (stretches-none (L (read .n + 1)) (read .n) none))
+    (stretches-nowhere (otherAfter J (read .p) (L (read .n + 1))) (read .n) gone ∙ sym (stretches-nowhere (L (read .n + 1)) (read .n) none))
 
 -- the block read
 pub own-row : (read : RowRead) (J : ℕ → ℕ) (L : ℕ → ℕ → ℕ) (changes next : Changes) (area last : List ℕ) → 0 < read .p → read .p ≤ read .n → Kept area last ((read .p - 1) * read .width) (read .width) → RowAt last read (read .p) (own (read .p))
@@ -147,7 +147,7 @@ pub own-row : (read : RowRead) (J : ℕ → ℕ) (L : ℕ → ℕ → ℕ) (chan
 unfolding movedOf
 own-row read J L changes next area last pos le kept row more eg el em together =
     let new = new-own J (read .p) (read .j) L (read .p) refl in
-    let one : stands read J L (read .p) ≡ 1 = ap (λ (F : ℕ → ℕ). stretches F (read .n)) new ∙ omega (arith, two (own (read .p)) (read .n), own-length) in
+    let one : stands read J L (read .p) ≡ 1 = ap (λ (F : ℕ → ℕ). stretches F (read .n)) new ∙ omega (arith, length-pairs (own (read .p)) (read .n), own-length) in
     let none : comes read L (read .p) ≡ 0 = simp tests in
     record {
       kept = kept;

@@ -10,10 +10,11 @@ use lib.ListN.{length, getD}
 use Rattle.card.specs.Stretches.{stretches}
 use Rattle.card.proofs.Tests.{by-lt, by-eq, tests}
 use Rattle.card.specs.Falling.{Falling}
-use Rattle.sizes.specs.Moves.{takenOut, putIn, otherAfter}
+use Rattle.card.specs.Moves.{takenOut, putIn}
+use Rattle.sizes.specs.Moves.{otherAfter}
 use Rattle.sizes.specs.Rows.{pairs, Row}
 use Rattle.sizes.proofs.PairLaws.{taken-cases, taken-le, put-low, put-high, put-out}
-use Rattle.sizes.proofs.PairFacts.{two, pairs-one, falls}
+use Rattle.sizes.proofs.PairFacts.{length-pairs, pairs-one, falls}
 use Rattle.sizes.proofs.RowLaws.{row-first}
 use Rattle.sizes.proofs.RowSkips.{first-bound}
 
@@ -46,7 +47,7 @@ module _ (L : ℕ → ℕ) (n c l : ℕ) where
 
   -- as many stretches as any other list of one
   pub stretches-still : Single → (R : ℕ → ℕ) (x y : ℕ) → pairs R n ≡ x ∷ y ∷ [] → stretches R n ≡ stretches L n
-  stretches-still one R x y e = omega (arith, two R n, ap length e, two L n, ap length (single-pairs one))
+  stretches-still one R x y e = omega (arith, length-pairs R n, ap length e, length-pairs L n, ap length (single-pairs one))
 
 -- by the first two numbers of its row
 pub single-row : (area : List ℕ) (from w n s : ℕ) (L : ℕ → ℕ) → 2 ≤ w → 0 < s → getD area (from + 1) 0 ≡ s → L n ≡ s → Falling L → Row area from w (pairs L n) → Single L n (getD area from 0) s

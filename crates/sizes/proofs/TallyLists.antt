@@ -3,7 +3,7 @@ use mathlib.Core.Path.{_≡_, refl, sym, ap, _∙_}
 use mathlib.Core.List.{List, [], _∷_, _++_, append-nil}
 use Prim.Native.Nat.{ℕ, zero, suc, _+_, _*_, _≤_, _<_}
 use native.Mathlib.Omega.{arith}
-use lib.ListN.{length, getD, length-append, List·getD-append, List·getD-eq-default}
+use lib.ListN.{getD, List·getD-append, List·getD-eq-default}
 use lib.Seq.{getD-append-add}
 use Rattle.card.specs.Stretches.{stretches}
 use Rattle.card.proofs.Tests.{by-lt, by-eq, tests}
@@ -11,6 +11,7 @@ use Rattle.sizes.specs.Rows.{pairs}
 use Rattle.card.specs.Falling.{Falling}
 use Rattle.sizes.specs.Lists.{Holds}
 use Rattle.sizes.specs.TallySteps.{Passed, PresentFrom}
+use Rattle.sizes.proofs.PairFacts.{length-pairs}
 
 module _ (J : ℕ → ℕ) where
   -- a size at which no stretch starts, and one at which one does
@@ -33,14 +34,6 @@ module _ (J : ℕ → ℕ) where
       (λ e. same record { list = simp tests (append-nil (pairs J n)); number = simp tests (omega arith); goes = λ h. e })
       (λ e. new record { list = simp tests; number = simp tests (omega arith); some = omega arith }))
 
-  length-pairs : (n : ℕ) → length (pairs J n) ≡ 2 * stretches J n
-  unfolding pairs
-  length-pairs zero = refl
-  length-pairs (suc n) =
-      by-start n
-      (λ s. rw (s .list, s .number) (length-pairs n))
-      (λ s. rw (s .list, s .number) (omega (arith, length-pairs n, length-append (pairs J n) (suc n ∷ J (suc n) ∷ []))))
-
   stretches-rise : (m n : ℕ) → m ≤ n → stretches J m ≤ stretches J n
   stretches-rise m zero h = let e : m ≡ 0 = omega arith in rw e (omega arith)
   stretches-rise m (suc n) h =
@@ -50,18 +43,18 @@ module _ (J : ℕ → ℕ) where
 
   -- past the last stretch are zeros
   pairs-end : (n q : ℕ) → 2 * stretches J n ≤ q → getD (pairs J n) q 0 ≡ 0
-  pairs-end n q h = List·getD-eq-default (pairs J n) 0 {n = q} (omega (arith, length-pairs n))
+  pairs-end n q h = List·getD-eq-default (pairs J n) 0 {n = q} (omega (arith, length-pairs J n))
 
   -- one size more leaves what there is
   pairs-more : (n q : ℕ) → q < 2 * stretches J n → getD (pairs J (suc n)) q 0 ≡ getD (pairs J n) q 0
   pairs-more n q h =
       by-start n
       (λ s. rw (s .list))
-      (λ s. rw (s .list) (List·getD-append (pairs J n) (suc n ∷ J (suc n) ∷ []) 0 q (omega (arith, length-pairs n))))
+      (λ s. rw (s .list) (List·getD-append (pairs J n) (suc n ∷ J (suc n) ∷ []) 0 q (omega (arith, length-pairs J n))))
 
   pairs-new : (n q : ℕ) → New n → getD (pairs J (suc n)) (2 * stretches J n + q) 0 ≡ getD (suc n ∷ J (suc n) ∷ []) q 0
   pairs-new n q s =
-      rw (s .list, ← length-pairs n) (getD-append-add (pairs J n) (suc n ∷ J (suc n) ∷ []) q 0)
+      rw (s .list, ← length-pairs J n) (getD-append-add (pairs J n) (suc n ∷ J (suc n) ∷ []) q 0)
 
   new-place : (n i : ℕ) → New n → i ≡ stretches J n → getD (pairs J (suc n)) (2 * i + 1) 0 ≡ J (suc n)
   new-place n i s e = ap (λ (k : ℕ). getD (pairs J (suc n)) (2 * k + 1) 0) e ∙ pairs-new n 1 s
@@ -71,7 +64,7 @@ module _ (J : ℕ → ℕ) where
     pub has : getD (pairs J n) (2 * i) 0 ≤ m → i < stretches J m
     pub lacks : m < getD (pairs J n) (2 * i) 0 → stretches J m ≤ i
 
-  firsts : (n m i : ℕ) → m ≤ n → i < stretches J n → First n m i
+  pub firsts : (n m i : ℕ) → m ≤ n → i < stretches J n → First n m i
   firsts zero m i h l = absurd (omega arith)
   firsts (suc n) m i h l =
       by-lt i (stretches J n)
@@ -113,7 +106,7 @@ module _ (J : ℕ → ℕ) where
         (old .0, omega (arith, pairs-more n (2 * i + 1) (omega (arith, stretches-rise m n (omega arith))))))
 
     -- the place at a size is that of the last stretch that has begun there
-    lasts : (n m i : ℕ) → m ≤ n → stretches J m ≡ suc i → getD (pairs J n) (2 * i + 1) 0 ≡ J m
+    pub lasts : (n m i : ℕ) → m ≤ n → stretches J m ≡ suc i → getD (pairs J n) (2 * i + 1) 0 ≡ J m
     lasts zero m i h e = let z : m ≡ 0 = omega arith in absurd (omega (arith, ap (stretches J) z))
     lasts (suc n) m i h e =
         by-eq m (suc n)

@@ -5,14 +5,7 @@ use mathlib.Core.Logic.{_⊎_, _≢_}
 use mathlib.Core.Bool.{cond}
 use lib.Dec.{ltb, leb, eqb}
 use Rattle.card.specs.Falling.{Falling}
-
--- the place of another block once the block at place j, 0 where it is absent, has been taken out
-abbrev pub takenOut : ℕ → ℕ → ℕ
-takenOut j l = cond (eqb j 0) l (cond (ltb j l) (l - 1) l)
-
--- the place of a block of a card of size m once a block has been put in at p
-abbrev pub putIn : (p m l : ℕ) → ℕ
-putIn p m l = cond (ltb m p) l (cond (ltb l p) l (cond (ltb l m) (l + 1) 0))
+use Rattle.card.specs.Moves.{takenOut, putIn}
 
 -- the places of another block after a read: J are those of the block that is read, L the other's
 unfoldable pub otherAfter : (ℕ → ℕ) → ℕ → (ℕ → ℕ) → ℕ → ℕ
@@ -26,12 +19,17 @@ Raised R S n = (m : ℕ) → m ≤ n → (R m ≡ S m - 1) × (S m ≢ 1)
 unfoldable pub own : ℕ → ℕ → ℕ
 own p m = cond (leb p m) p 0
 
+-- the place of another block before a block was put in at p
+abbrev pub beforePutIn : (p k : ℕ) → ℕ
+beforePutIn p k = cond (ltb p k) (k - 1) k
+
+-- and before the block at place j, 0 where it was absent, was taken out
+abbrev pub beforeTakenOut : (j x : ℕ) → ℕ
+beforeTakenOut j x = cond (eqb j 0) x (cond (ltb x j) x (x + 1))
+
 -- the old place, in the largest card, of what stands at place k after the read of a block at j
 unfoldable pub sourceOf : (p j k : ℕ) → ℕ
-sourceOf p j k = putBack j (cond (ltb p k) (k - 1) k)
-  where
-    putBack : ℕ → ℕ → ℕ
-    putBack j x = cond (eqb j 0) x (cond (ltb x j) x (x + 1))
+sourceOf p j k = beforeTakenOut j (beforePutIn p k)
 
 -- the blocks of a card by their places: each one's places at every size, with no block at place 0 or past the last
 pub record Family (L : ℕ → ℕ → ℕ) (n : ℕ) : Type 0 where

@@ -7,7 +7,8 @@ ghost use Prim.Native.Nat.{ℕ, suc, _+_, _^_, _<_, _≤_};
 ghost use lib.ListN.{length, getD};
 ghost use Rattle.sizes.specs.Rows.{pairs, rowLength};
 ghost use Rattle.card.specs.Falling.{Falling};
-ghost use Rattle.sizes.specs.Moves.{takenOut, putIn, otherAfter};
+ghost use Rattle.card.specs.Moves.{takenOut, putIn};
+ghost use Rattle.sizes.specs.Moves.{otherAfter};
 ghost use Rattle.sizes.specs.Lists.{Holds, Begins, Ends, At, ListedUpTo, nextSize};
 
 // Room for the longest list of a block and two zeros.

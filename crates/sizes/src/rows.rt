@@ -51,7 +51,7 @@ pub fn load(stretches: &[u16], n: usize, j: usize, out: &mut [u16])
         return;
     }
     let width = row_length(n);
-    let count = copy_row(stretches, (j - 1) * width, width, out);
+    copy_row(stretches, (j - 1) * width, width, out);
 }
 
 // The row from an index on gets the stretches of a block whose list was the other.

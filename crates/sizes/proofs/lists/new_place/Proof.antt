@@ -1,7 +1,7 @@
 -- First taken out, then put in.
 use borrow.Author.Needs.{needs}
 use mathlib.Core.Path.{ap, _∙_}
-use Rattle.sizes.specs.Moves.{putIn}
+use Rattle.card.specs.Moves.{putIn}
 use Rattle.sizes.proofs.lists.new_place.Statement.{statement}
 use Rattle.sizes.proofs.lists.new_place.Tie as tie
 

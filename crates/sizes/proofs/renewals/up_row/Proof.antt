@@ -1,4 +1,4 @@
--- What comes from the place below: nothing, one stretch, or a list that is merged.
+-- What comes from the place below: nothing, a list whose places all go up by one, or a list that is merged.
 use borrow.Author.Needs.{needs}
 use native.Mathlib.Omega.{arith}
 use mathlib.Core.Path.{_∙_}

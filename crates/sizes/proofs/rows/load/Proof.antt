@@ -6,14 +6,15 @@ use lib.ListN.{length, List·getD-eq-default}
 use Prim.Native.Nat.{_-_}
 use Rattle.card.proofs.Tests.{by-lt}
 use Rattle.sizes.specs.Rows.{pairs, rowLength}
-use Rattle.sizes.proofs.PairLaws.{room}
+use Rattle.card.proofs.StretchBounds.{stretches-none}
+use Rattle.sizes.proofs.PairFacts.{length-pairs}
 use Rattle.sizes.proofs.RowLaws.{base-le, rows-fit}
 use Rattle.sizes.proofs.rows.load.Statement.{statement}
 use Rattle.sizes.proofs.rows.load.Tie as tie
 
 returns : tie.Need-returns
 returns c L fall none some q =
-    c .before .before .before .pre .3 q ∙ sym (List·getD-eq-default (pairs L (c .before .before .before .args .n)) 0 {n = q} (omega (arith, room L fall (c .before .before .before .args .n) .0 (none (c .if1 .taken)))))
+    c .before .before .before .pre .3 q ∙ sym (List·getD-eq-default (pairs L (c .before .before .before .args .n)) 0 {n = q} (omega (arith, length-pairs L (c .before .before .before .args .n), stretches-none L fall (c .before .before .before .args .n) (none (c .if1 .taken)))))
 
 row-length-requires : tie.Need-row-length-requires
 row-length-requires c κs =

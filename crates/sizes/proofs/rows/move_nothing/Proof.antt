@@ -8,7 +8,7 @@ use lib.ListN.{getD}
 use Rattle.sizes.specs.Moves.{otherAfter}
 use Rattle.sizes.proofs.RowLaws.{row-first, never, kept-same, pairs-none, after-none}
 use Rattle.sizes.proofs.RowSkips.{nowhere}
-use Rattle.sizes.proofs.RowCounts.{stretches-none}
+use Rattle.sizes.proofs.RowCounts.{stretches-nowhere}
 use Rattle.sizes.proofs.rows.move_nothing.Statement.{statement}
 use Rattle.sizes.proofs.rows.move_nothing.Tie as tie
 
@@ -25,7 +25,7 @@ returns-2 c =
           let none = nowhere S n gs some (omega (arith, row-first (at .area .now) (at .from) (at .width) n S (omega arith) src, c .before .before .before .before .if1 .left)) in
           let gone = after-none J p S pos none in (
             λ q hq. closed .1 T n ew gt (λ x _. old x) q (omega arith) hq ∙ sym (ap (λ (l : List ℕ). getD l q 0) (pairs-none (otherAfter J p S) n gone)),
-            stretches-none (otherAfter J p S) n gone ∙ sym (stretches-none S n none),
+            stretches-nowhere (otherAfter J p S) n gone ∙ sym (stretches-nowhere S n none),
           ),
     )
 

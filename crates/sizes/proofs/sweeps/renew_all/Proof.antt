@@ -12,7 +12,7 @@ use Rattle.sizes.specs.Sweeps.{FoundInRows}
 use Rattle.sizes.proofs.PairLists.{pairs-same, stretches-same}
 use Rattle.sizes.proofs.Widths.{list-room}
 use Rattle.sizes.proofs.RowLaws.{base-le}
-use Rattle.sizes.proofs.RowCounts.{stretches-none}
+use Rattle.sizes.proofs.RowCounts.{stretches-nowhere}
 use Rattle.sizes.proofs.Exchanges.{sum-same, most-same, exchange}
 use Rattle.sizes.proofs.Clamps.{clamped}
 use Rattle.sizes.proofs.Turns.{found-finds}
@@ -56,7 +56,7 @@ returns c =
           arith,
           re .0 J L (found-finds _ _ _ J L f) (old L (f .rows)) .1 .0,
           c .before .before .before .before .before .before .before .leaving .ensures .1 J L (f .falling) (f .family) (f .there) (λ q h. f .listed q) (old L (f .rows) n (omega arith) (omega arith)),
-          exchange (λ k. stretches (L k) n) (stretches J n) n p (at .j) (omega arith) (omega arith) (omega arith) (stretches-none (L (n + 1)) n (f .family .past)) (λ pos. stretches-same (L (at .j)) J n (λ m hm. f .same pos m)),
+          exchange (λ k. stretches (L k) n) (stretches J n) n p (at .j) (omega arith) (omega arith) (omega arith) (stretches-nowhere (L (n + 1)) n (f .family .past)) (λ pos. stretches-same (L (at .j)) J n (λ m hm. f .same pos m)),
           sum-same (λ k. stretches (newOf J p (at .j) L k) n) (λ k. stretches (newOf J (at .p) (at .j) L k) n) n (counts J L),
         )),
         (
