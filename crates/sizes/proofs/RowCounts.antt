@@ -30,18 +30,18 @@ module _ (J : ℕ → ℕ) (L : ℕ → ℕ → ℕ) (n p j : ℕ) where
   unfolding leftOf
   left-read x pos e = let ne : j ≢ 0 = omega arith in simp tests (stretches-entries J n x e)
 
-  pub left-bypass : (j ≡ 0) → n < p → Left 0
+  pub left-bypass : j ≡ 0 → n < p → Left 0
   unfolding leftOf
   left-bypass z h = simp tests
 
-  pub left-none : (j ≡ 0) → p ≤ n → getD (pairs (L n) n) 0 0 ≡ 0 → Left 0
+  pub left-none : j ≡ 0 → p ≤ n → getD (pairs (L n) n) 0 0 ≡ 0 → Left 0
   unfolding leftOf
   left-none z h e =
       let none : length (pairs (L n) n) ≡ 0 = by-lt 0 (length (pairs (L n) n)) (λ lt. absurd (omega (arith, entries (L n) n 0 lt))) (λ le. omega arith) in
       simp tests (omega (arith, length-pairs (L n) n))
 
   -- a block at the last place has one stretch
-  pub left-last : (j ≡ 0) → p ≤ n → 0 < n → Family L n → getD (pairs (L n) n) 0 0 ≢ 0 → Left 1
+  pub left-last : j ≡ 0 → p ≤ n → 0 < n → Family L n → getD (pairs (L n) n) 0 0 ≢ 0 → Left 1
   unfolding leftOf
   left-last z h pos fam ne =
       let some : 0 < length (pairs (L n) n) = by-lt 0 (length (pairs (L n) n)) (λ lt. lt) (λ le. absurd (ne (List·getD-eq-default (pairs (L n) n) 0 {n = 0} (omega arith)))) in

@@ -2,15 +2,15 @@
 use mathlib.Core.Path.{_≡_}
 use mathlib.Core.Bool.{cond}
 use mathlib.Core.Logic.{_⊎_}
-use mathlib.Core.List.{List}
+use mathlib.Core.List.{List, [], _∷_}
 use Prim.Native.Nat.{ℕ, _+_, _-_, _*_, _≤_, _<_, max}
 use lib.Dec.{eqb}
 use lib.ListN.{getD, length}
 use Rattle.card.specs.Stretches.{stretches}
 use Rattle.card.specs.Falling.{Falling}
-use Rattle.sizes.specs.Moves.{otherAfter, Family, sourceOf, newOf}
+use Rattle.sizes.specs.Moves.{otherAfter, Raised, Family, sourceOf, newOf}
 use Rattle.sizes.specs.Rows.{pairs, rowLength, Row}
-use Rattle.sizes.specs.Lists.{Begins}
+use Rattle.sizes.specs.Lists.{Holds, Begins}
 use Rattle.sizes.specs.declared.rows.Changes.{Changes}
 use Rattle.sizes.specs.declared.renewals.RowRead.{RowRead}
 
@@ -19,6 +19,34 @@ pub record Kept (area last : List ℕ) (a w : ℕ) : Type 0 where
   pub size : length last ≡ length area
   pub below : (x : ℕ) → x < a → getD last x 0 ≡ getD area x 0
   pub above : (x : ℕ) → a + w ≤ x → getD last x 0 ≡ getD area x 0
+
+-- a list gets what the row of place j holds, the list of a block that is at no size up to n where j is 0
+abbrev pub Loaded : (area list : List ℕ) (n j : ℕ) → Type 0
+Loaded area list n j =
+    (R : ℕ → ℕ) → Falling R → (j ≡ 0 → R n ≡ 0) → (0 < j → Row area ((j - 1) * rowLength n) (rowLength n) (pairs R n)) → Holds list R n
+
+-- a row, whatever list it held, gets the list of one stretch
+abbrev pub OneWritten : (entry exit : List ℕ) (at width first place : ℕ) → Type 0
+OneWritten entry exit at width first place =
+    (R T : ℕ → ℕ) (n : ℕ) → width ≡ rowLength n → Falling T → pairs R n ≡ first ∷ place ∷ [] → Row entry at width (pairs T n) → Row exit at width (pairs R n)
+
+-- a row that holds a list from its entry q on holds zeros from there on
+abbrev pub Closed : (entry exit : List ℕ) (at width q : ℕ) → Type 0
+Closed entry exit at width q =
+    (T : ℕ → ℕ) (n : ℕ) → width ≡ rowLength n → Falling T → ((x : ℕ) → q ≤ x → x < width → getD entry (at + x) 0 ≡ getD (pairs T n) x 0)
+    → (x : ℕ) → q ≤ x → x < width → getD exit (at + x) 0 ≡ 0
+
+-- a row, whatever list it held, gets the list of another block after the read, and how many entries that has
+abbrev pub RowMerged : (list other entry exit : List ℕ) (at width p n x : ℕ) → Type 0
+RowMerged list other entry exit at width p n x =
+    (J L T : ℕ → ℕ) → Falling J → Falling L → Falling T → Begins list J n → Begins other L n → Row entry at width (pairs T n)
+    → (x ≡ length (pairs (otherAfter J p L) n)) × Row exit at width (pairs (otherAfter J p L) n)
+
+-- the first x entries of a row are the list of another with each place one less
+abbrev pub RowRaised : (entry exit : List ℕ) (from at width x : ℕ) → Type 0
+RowRaised entry exit from at width x =
+    (R S : ℕ → ℕ) (n : ℕ) → width ≡ rowLength n → Falling S → Raised R S n → Row entry from width (pairs S n)
+    → (x ≡ length (pairs R n)) × ((q : ℕ) → q < x → getD exit (at + q) 0 ≡ getD (pairs R n) q 0)
 
 -- the list of S comes from one row to another as the read leaves it, with as many stretches; T is what was there
 abbrev pub Carried : (entry exit : List ℕ) (from at width n p : ℕ) (J S T : ℕ → ℕ) → Type 0
@@ -31,6 +59,18 @@ abbrev pub CarriedNone : (entry exit : List ℕ) (from at width : ℕ) → Type 
 CarriedNone entry exit from at width =
     (n p : ℕ) (J S T : ℕ → ℕ) → width ≡ rowLength n → 0 < p → Falling T → (0 < S n) ⊎ ((m : ℕ) → S m ≡ 0) → Falling S
     → Carried entry exit from at width n p J S T
+
+-- so does the list of place s, where the block read is put in no lower than there and was lower or in no card
+abbrev pub CarriedDown : (entry exit : List ℕ) (from at width s : ℕ) → Type 0
+CarriedDown entry exit from at width s =
+    (n p j : ℕ) (J S T : ℕ → ℕ) → width ≡ rowLength n → 0 < p → p ≤ s → s < n → Falling J → Falling S → Falling T → S n ≡ s → j ≡ J n → (j ≡ 0) ⊎ (s < j)
+    → Carried entry exit from at width n p J S T
+
+-- so does the list of place s, where the block read is in the largest card and its list begins with start and place
+abbrev pub CarriedUp : (entry exit : List ℕ) (from at width s p start place : ℕ) → Type 0
+CarriedUp entry exit from at width s p start place =
+    (n j : ℕ) (J S T : ℕ → ℕ) → width ≡ rowLength n → 0 < p → Falling J → Falling S → Falling T → S n ≡ s → j ≡ J n → 0 < j
+    → start ≡ getD (pairs J n) 0 0 → place ≡ getD (pairs J n) 1 0 → Carried entry exit from at width n p J S T
 
 -- it comes with another number of stretches, which are counted as gained, and those it had as lost
 abbrev pub Merged : (list entry exit : List ℕ) (from at width n p : ℕ) → Changes → Type 0

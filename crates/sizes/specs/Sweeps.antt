@@ -10,7 +10,7 @@ use Rattle.card.specs.Falling.{Falling}
 use Rattle.sizes.specs.Moves.{Family, newOf}
 use Rattle.sizes.specs.Rows.{pairs, rowLength, Row}
 use Rattle.sizes.specs.Totals.{sumTo, mostTo}
-use Rattle.sizes.specs.Lists.{Holds}
+use Rattle.sizes.specs.Lists.{Holds, Begins}
 use Rattle.sizes.specs.Renewals.{RowAt, Finds, comes, stands, movedOf}
 use Rattle.sizes.specs.declared.rows.Changes.{Changes}
 use Rattle.sizes.specs.declared.renewals.RowRead.{RowRead}
@@ -40,6 +40,12 @@ Leads list read a b changes area c d next last =
 -- of the stretches of the old places, those that leave: the block read's, or those of what is pushed out of the last place
 unfoldable pub leftOf : (ℕ → ℕ) → (read n p j : ℕ) → ℕ
 leftOf count read n p j = cond (eqb j 0) (cond (ltb n p) 0 (count n)) read
+
+-- so many leave, whatever the read finds
+abbrev pub Leaves : (list area : List ℕ) (width n p j x : ℕ) → Type 0
+Leaves list area width n p j x =
+    (J : ℕ → ℕ) (L : ℕ → ℕ → ℕ) → Falling J → Family L n → j ≡ J n → Begins list J n → Row area ((n - 1) * width) width (pairs (L n) n)
+    → x ≡ leftOf (λ k. stretches (L k) n) (stretches J n) n p j
 
 -- all rows together: the stretches gained and lost beside those that leave, and the longest list that was made
 abbrev pub AllCounted : (n p j leaving gained lost longest : ℕ) (J : ℕ → ℕ) (L : ℕ → ℕ → ℕ) → Type 0

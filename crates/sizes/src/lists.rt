@@ -3,13 +3,12 @@ use crate::numbers::smaller;
 use terms::LARGEST_SIZE;
 ghost use mathlib.Core.Path.{_≡_};
 ghost use mathlib.Core.List.{[], _∷_};
-ghost use Prim.Native.Nat.{ℕ, suc, _+_, _^_, _<_, _≤_};
+ghost use Prim.Native.Nat.{ℕ, _+_, _^_, _<_, _≤_};
 ghost use lib.ListN.{length, getD};
 ghost use Rattle.sizes.specs.Rows.{pairs, rowLength};
 ghost use Rattle.card.specs.Falling.{Falling};
 ghost use Rattle.card.specs.Moves.{takenOut, putIn};
-ghost use Rattle.sizes.specs.Moves.{otherAfter};
-ghost use Rattle.sizes.specs.Lists.{Holds, Begins, Ends, At, ListedUpTo, nextSize};
+ghost use Rattle.sizes.specs.Lists.{Holds, Begins, Ends, CursorAt, GoesOn, GoesTo, ListedNext, MergedInto, nextSize};
 
 // Room for the longest list of a block and two zeros.
 pub const LIST_ROOM: usize = LARGEST_SIZE + 3;
@@ -83,7 +82,7 @@ fn next_size(list: &[u16], i: usize, n: u16) -> u16
 fn next_stretch(list: &[u16], cursor: Cursor, n: u16) -> Cursor
     requires { ⌜ (n < 65535) × (cursor .passed + 2 < 2 ^ 64) ⌝ }
     ensures passed { λ r. ⌜ r .passed ≡ cursor .passed + 2 ⌝ }
-    ensures at { λ r. ⌜ ((J : ℕ → ℕ) (t : ℕ) → Falling J → Begins (now (list .entry)) J n → t ≤ n → cursor .next ≤ n → At J n t (cursor .passed) (cursor .place) (cursor .next) → At J n (cursor .next) (r .passed) (r .place) (r .next)) ⌝ }
+    ensures at { λ r. ⌜ GoesOn (now (list .entry)) n cursor r ⌝ }
 {
     let i = cursor.passed;
     Cursor {
@@ -97,7 +96,7 @@ fn next_stretch(list: &[u16], cursor: Cursor, n: u16) -> Cursor
 fn advance(list: &[u16], cursor: Cursor, s: u16, n: u16) -> Cursor
     requires { ⌜ (n < 65535) × (cursor .passed + 2 < 2 ^ 64) ⌝ }
     ensures passed { λ r. ⌜ r .passed ≤ cursor .passed + 2 ⌝ }
-    ensures at { λ r. ⌜ ((J : ℕ → ℕ) (t : ℕ) → Falling J → Begins (now (list .entry)) J n → s ≡ suc t → s ≤ n → At J n t (cursor .passed) (cursor .place) (cursor .next) → At J n s (r .passed) (r .place) (r .next)) ⌝ }
+    ensures at { λ r. ⌜ GoesTo (now (list .entry)) n s cursor r ⌝ }
 {
     if cursor.next == s {
         return next_stretch(list, cursor, n);
@@ -109,7 +108,7 @@ fn advance(list: &[u16], cursor: Cursor, s: u16, n: u16) -> Cursor
 fn cursor_at(list: &[u16], t: u16, n: u16) -> Cursor
     requires { ⌜ n < 65535 ⌝ }
     ensures passed { λ r. ⌜ r .passed ≤ length (now (list .entry)) + 1 ⌝ }
-    ensures at { λ r. ⌜ ((J : ℕ → ℕ) → Falling J → Begins (now (list .entry)) J n → t ≤ n → At J n t (r .passed) (r .place) (r .next)) ⌝ }
+    ensures at { λ r. ⌜ ((R : ℕ → ℕ) → Falling R → Begins (now (list .entry)) R n → t ≤ n → CursorAt R n t r) ⌝ }
 {
     let mut x = Cursor {
         passed: 0,
@@ -148,7 +147,7 @@ fn last_still(x: u16, y: u16, s: u16, l: u16, r: u16) -> u16
 fn push(out: &mut [u16], q: usize, s: u16, r: u16, last: u16) -> usize
     requires { ⌜ q ≤ length (now out) ⌝ }
     ensures range { λ x. ⌜ (q ≤ x) × (x ≤ length (now (out .entry))) × ((y : ℕ) → x ≤ y → getD (now (out .exit)) y 0 ≡ getD (now (out .entry)) y 0) ⌝ }
-    ensures written { λ x. ⌜ ((R : ℕ → ℕ) (t : ℕ) → s ≡ suc t → r ≡ R s → last ≡ R t → length (pairs R s) ≤ length (now (out .entry)) → ListedUpTo (now (out .entry)) q R t → ListedUpTo (now (out .exit)) x R s) ⌝ }
+    ensures written { λ x. ⌜ ListedNext (now (out .entry)) (now (out .exit)) q x s r last ⌝ }
 {
     if r == 0 {
         return q;
@@ -182,7 +181,7 @@ pub fn fill(out: &mut [u16], q: usize)
 pub fn merge(list: &[u16], other: &[u16], out: &mut [u16], p: u16, n: u16) -> usize
     requires { ⌜ (0 < p) × (n < 65535) ⌝ }
     ensures range { λ x. ⌜ x ≤ length (now (out .entry)) ⌝ }
-    ensures merged { λ x. ⌜ ((J L : ℕ → ℕ) → Falling J → Falling L → Begins (now (list .entry)) J n → Begins (now (other .entry)) L n → Ends (now (out .entry)) 0 → length (pairs (otherAfter J p L) n) ≤ length (now (out .entry)) → (x ≡ length (pairs (otherAfter J p L) n)) × Holds (now (out .exit)) (otherAfter J p L) n) ⌝ }
+    ensures merged { λ x. ⌜ MergedInto (now (list .entry)) (now (other .entry)) (now (out .entry)) (now (out .exit)) p n x ⌝ }
 {
     let first = next_size(other, 0, n);
     let mut t = first - 1;

@@ -5,16 +5,13 @@ use crate::lists::merge;
 use crate::lists::write_pair;
 ghost use mathlib.Core.Path.{_≡_};
 ghost use mathlib.Core.Bool.{true, false, cond};
-ghost use mathlib.Core.List.{[], _∷_};
-ghost use mathlib.Core.Logic.{_⊎_};
 ghost use Prim.Native.Nat.{ℕ, _+_, _-_, _*_, _^_, _<_, _≤_};
 ghost use lib.Dec.{eqb};
 ghost use lib.ListN.{length, getD};
 ghost use Rattle.sizes.specs.Rows.{pairs, rowLength, Row};
 ghost use Rattle.card.specs.Falling.{Falling};
-ghost use Rattle.sizes.specs.Moves.{otherAfter, Raised};
 ghost use Rattle.sizes.specs.Lists.{Begins};
-ghost use Rattle.sizes.specs.Renewals.{Kept, Carried, CarriedNone, Merged};
+ghost use Rattle.sizes.specs.Renewals.{Kept, Loaded, OneWritten, Closed, RowMerged, RowRaised, CarriedNone, CarriedDown, CarriedUp, Merged};
 ghost use Rattle.card.specs.Stretches.{stretches};
 
 // How the number of stretches changed, and the length of the longest list that was made.
@@ -45,7 +42,7 @@ pub fn row_length(n: usize) -> usize
 // Copies the list of the block at place j up to its end, none where j is 0.
 pub fn load(stretches: &[u16], n: usize, j: usize, out: &mut [u16])
     requires { ⌜ (j ≤ n) × (n * rowLength n ≤ length (now stretches)) × (rowLength n + 2 ≤ length (now out)) × ((x : ℕ) → getD (now out) x 0 ≡ 0) ⌝ }
-    ensures { λ _. ⌜ ((L : ℕ → ℕ) → Falling L → (j ≡ 0 → L n ≡ 0) → (0 < j → Row (now (stretches .entry)) ((j - 1) * rowLength n) (rowLength n) (pairs L n)) → (q : ℕ) → getD (now (out .exit)) q 0 ≡ getD (pairs L n) q 0) ⌝ }
+    ensures { λ _. ⌜ Loaded (now (stretches .entry)) (now (out .exit)) n j ⌝ }
 {
     if j == 0 {
         return;
@@ -66,7 +63,7 @@ fn renew(
 ) -> usize
     requires { ⌜ (0 < p) × (width ≡ rowLength n) × (at + width ≤ length (now area)) × (n < 65535) ⌝ }
     ensures kept { λ x. ⌜ (x ≤ width) × Kept (now (area .entry)) (now (area .exit)) at width ⌝ }
-    ensures holds { λ x. ⌜ ((J L T : ℕ → ℕ) → Falling J → Falling L → Falling T → Begins (now (list .entry)) J n → Begins (now (other .entry)) L n → Row (now (area .entry)) at width (pairs T n) → (x ≡ length (pairs (otherAfter J p L) n)) × Row (now (area .exit)) at width (pairs (otherAfter J p L) n)) ⌝ }
+    ensures holds { λ x. ⌜ RowMerged (now (list .entry)) (now (other .entry)) (now (area .entry)) (now (area .exit)) at width p n x ⌝ }
 {
     let end = at + width;
     merge(list, other, &mut area[at..end], p, n)
@@ -76,7 +73,7 @@ fn renew(
 pub fn write_row(area: &mut [u16], at: usize, width: usize, first: u16, place: u16)
     requires { ⌜ (2 ≤ width) × (at + width ≤ length (now area)) ⌝ }
     ensures kept { λ _. ⌜ Kept (now (area .entry)) (now (area .exit)) at width ⌝ }
-    ensures holds { λ _. ⌜ ((R T : ℕ → ℕ) (n : ℕ) → width ≡ rowLength n → Falling T → pairs R n ≡ first ∷ place ∷ [] → Row (now (area .entry)) at width (pairs T n) → Row (now (area .exit)) at width (pairs R n)) ⌝ }
+    ensures holds { λ _. ⌜ OneWritten (now (area .entry)) (now (area .exit)) at width first place ⌝ }
 {
     let end = at + width;
     write_pair(&mut area[at..end], first, place);
@@ -86,8 +83,7 @@ pub fn write_row(area: &mut [u16], at: usize, width: usize, first: u16, place: u
 pub fn close(area: &mut [u16], at: usize, width: usize, q: usize)
     requires { ⌜ at + width ≤ length (now area) ⌝ }
     ensures kept { λ _. ⌜ Kept (now (area .entry)) (now (area .exit)) at width × ((x : ℕ) → x < q → x < width → getD (now (area .exit)) (at + x) 0 ≡ getD (now (area .entry)) (at + x) 0) ⌝ }
-    ensures closed { λ _. ⌜ ((T : ℕ → ℕ) (n : ℕ) → width ≡ rowLength n → Falling T → ((x : ℕ) → q ≤ x → x < width → getD (now (area .entry)) (at + x) 0 ≡ getD (pairs T n) x 0)
-        → (x : ℕ) → q ≤ x → x < width → getD (now (area .exit)) (at + x) 0 ≡ 0) ⌝ }
+    ensures closed { λ _. ⌜ Closed (now (area .entry)) (now (area .exit)) at width q ⌝ }
 {
     let end = at + width;
     fill(&mut area[at..end], q);
@@ -121,8 +117,7 @@ fn lowered_first(first: u16, s: u16) -> u16
 pub fn lower_pair(area: &mut [u16], from: usize, at: usize, width: usize, s: u16) -> bool
     requires { ⌜ (2 ≤ width) × (from + width ≤ length (now area)) × (at + width ≤ length (now area)) × (0 < s) × (s < 65535) ⌝ }
     ensures kept { λ r. ⌜ Kept (now (area .entry)) (now (area .exit)) at width × (r ≡ false → now (area .exit) ≡ now (area .entry)) ⌝ }
-    ensures moved { λ r. ⌜ (r ≡ true → (n p j : ℕ) (J S T : ℕ → ℕ) → width ≡ rowLength n → 0 < p → p ≤ s → s < n → Falling J → Falling S → Falling T → S n ≡ s → j ≡ J n → ((j ≡ 0) ⊎ (s < j))
-        → Carried (now (area .entry)) (now (area .exit)) from at width n p J S T) ⌝ }
+    ensures moved { λ r. ⌜ (r ≡ true → CarriedDown (now (area .entry)) (now (area .exit)) from at width s) ⌝ }
 {
     if area[from + 1] != s {
         return false;
@@ -136,8 +131,7 @@ pub fn lower_pair(area: &mut [u16], from: usize, at: usize, width: usize, s: u16
 fn write_raised(area: &mut [u16], from: usize, at: usize, width: usize) -> usize
     requires { ⌜ (from + width ≤ length (now area)) × (at + width ≤ from) ⌝ }
     ensures kept { λ x. ⌜ (x ≤ width) × Kept (now (area .entry)) (now (area .exit)) at x ⌝ }
-    ensures raised { λ x. ⌜ ((R S : ℕ → ℕ) (n : ℕ) → width ≡ rowLength n → Falling S → Raised R S n → Row (now (area .entry)) from width (pairs S n)
-        → (x ≡ length (pairs R n)) × ((q : ℕ) → q < x → getD (now (area .exit)) (at + q) 0 ≡ getD (pairs R n) q 0)) ⌝ }
+    ensures raised { λ x. ⌜ RowRaised (now (area .entry)) (now (area .exit)) from at width x ⌝ }
 {
     let mut h = 0;
     while 2 * h + 1 < width {
@@ -166,8 +160,7 @@ pub fn raise_list(
 ) -> bool
     requires { ⌜ (2 ≤ width) × (from + width ≤ length (now area)) × (at + width ≤ from) ⌝ }
     ensures kept { λ r. ⌜ Kept (now (area .entry)) (now (area .exit)) at width × (r ≡ false → now (area .exit) ≡ now (area .entry)) ⌝ }
-    ensures moved { λ r. ⌜ (r ≡ true → (n j : ℕ) (J S T : ℕ → ℕ) → width ≡ rowLength n → 0 < p → Falling J → Falling S → Falling T → S n ≡ s → j ≡ J n → 0 < j
-        → start ≡ getD (pairs J n) 0 0 → place ≡ getD (pairs J n) 1 0 → Carried (now (area .entry)) (now (area .exit)) from at width n p J S T) ⌝ }
+    ensures moved { λ r. ⌜ (r ≡ true → CarriedUp (now (area .entry)) (now (area .exit)) from at width s p start place) ⌝ }
 {
     if s <= place {
         return false;

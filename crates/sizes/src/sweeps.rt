@@ -13,12 +13,10 @@ ghost use mathlib.Core.Logic.{_⊎_};
 ghost use Prim.Native.Nat.{ℕ, _+_, _-_, _*_, _^_, _<_, _≤_, min, max};
 ghost use lib.ListN.{length};
 ghost use Rattle.terms.specs.Ranges.{size};
-ghost use Rattle.sizes.specs.Rows.{pairs, rowLength, Row};
-ghost use Rattle.card.specs.Falling.{Falling};
-ghost use Rattle.sizes.specs.Moves.{Family, newOf};
-ghost use Rattle.sizes.specs.Lists.{Begins};
+ghost use Rattle.sizes.specs.Rows.{rowLength};
+ghost use Rattle.sizes.specs.Moves.{newOf};
 ghost use Rattle.sizes.specs.Renewals.{Ready, Grown};
-ghost use Rattle.sizes.specs.Sweeps.{Leads, RowsOf, AllRenewed, Fresh, FoundInRows, leftOf};
+ghost use Rattle.sizes.specs.Sweeps.{Leads, RowsOf, AllRenewed, Fresh, FoundInRows, Leaves};
 ghost use Rattle.sizes.specs.Totals.{sumTo, mostTo};
 ghost use Rattle.card.specs.Stretches.{stretches};
 ghost use Rattle.card.specs.Stretches as card;
@@ -203,7 +201,7 @@ fn renew_rows(
 fn leaving(area: &[u16], width: usize, list: &[u16], n: u16, p: u16, j: u16) -> usize
     requires { ⌜ (0 < n) × (width ≡ rowLength n) × ((n - 1) * width + width ≤ length (now area)) × (width ≤ length (now list)) ⌝ }
     ensures range { λ x. ⌜ x ≤ width ⌝ }
-    ensures left { λ x. ⌜ ((J : ℕ → ℕ) (L : ℕ → ℕ → ℕ) → Falling J → Family L n → j ≡ J n → Begins (now (list .entry)) J n → Row (now (area .entry)) ((n - 1) * width) width (pairs (L n) n) → x ≡ leftOf (λ k. stretches (L k) n) (stretches J n) n p j) ⌝ }
+    ensures left { λ x. ⌜ Leaves (now (list .entry)) (now (area .entry)) width n p j x ⌝ }
 {
     if 0 < j {
         return count_entries(list, width) / 2;
