@@ -71,3 +71,20 @@ pub record FoundInRows (list area : List ℕ) (n j : ℕ) (J : ℕ → ℕ) (L :
   pub same : 0 < j → (m : ℕ) → L j m ≡ J m
   pub listed : Holds list J n
   pub rows : RowsOf area (rowLength n) n L
+
+-- whatever the read finds, each row gets the list of what then stands at its place
+abbrev pub RowsRenewed : (list area last : List ℕ) (n p j : ℕ) → Type 0
+RowsRenewed list area last n p j =
+    (J : ℕ → ℕ) (L : ℕ → ℕ → ℕ) → FoundInRows list area n j J L → RowsOf last (rowLength n) n (newOf J p j L)
+
+-- the stretches of all blocks change by those gained and lost
+abbrev pub TotalChanged : (list area : List ℕ) (n p j : ℕ) → Changes → Type 0
+TotalChanged list area n p j changes =
+    (J : ℕ → ℕ) (L : ℕ → ℕ → ℕ) → FoundInRows list area n j J L
+    → changes .gained + sumTo n (λ k. stretches (L k) n) ≡ changes .lost + sumTo n (λ k. stretches (newOf J p j L k) n)
+
+-- beside what bounds the lists before the read, the longest list made is the longest of all
+abbrev pub LongestMade : (list area : List ℕ) (n p j : ℕ) → Changes → Type 0
+LongestMade list area n p j changes =
+    (J : ℕ → ℕ) (L : ℕ → ℕ → ℕ) → FoundInRows list area n j J L
+    → (B : ℕ) → Bound n L B → max B (changes .longest) ≡ max B (mostTo n (λ k. stretches (newOf J p j L k) n))

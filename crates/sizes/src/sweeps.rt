@@ -10,16 +10,12 @@ use crate::rows::Changes;
 use crate::rows::row_length;
 ghost use mathlib.Core.Path.{_≡_};
 ghost use mathlib.Core.Logic.{_⊎_};
-ghost use Prim.Native.Nat.{ℕ, _+_, _-_, _*_, _^_, _<_, _≤_, min, max};
+ghost use Prim.Native.Nat.{ℕ, _+_, _-_, _*_, _^_, _<_, _≤_, min};
 ghost use lib.ListN.{length};
 ghost use Rattle.terms.specs.Ranges.{size};
 ghost use Rattle.sizes.specs.Rows.{rowLength};
-ghost use Rattle.sizes.specs.Moves.{newOf};
 ghost use Rattle.sizes.specs.Renewals.{Ready, Grown};
-ghost use Rattle.sizes.specs.Sweeps.{Leads, RowsOf, AllRenewed, Fresh, FoundInRows, Leaves};
-ghost use Rattle.sizes.specs.Totals.{sumTo, mostTo};
-ghost use Rattle.card.specs.Stretches.{stretches};
-ghost use Rattle.card.specs.Stretches as card;
+ghost use Rattle.sizes.specs.Sweeps.{Leads, AllRenewed, Fresh, Leaves, RowsRenewed, TotalChanged, LongestMade};
 
 // The rows above p and the block read, from the first one on.
 fn above(
@@ -236,9 +232,9 @@ pub fn renew_all(
     j: usize,
 ) -> Changes
     requires { ⌜ (1 ≤ n) × (n ≤ size .largest) × (1 ≤ p) × (j ≤ n) × (j ≡ 0 → p ≤ n) × (rowLength n + 2 ≤ length (now list)) × (n * rowLength n ≤ length (now stretches)) × (rowLength n < length (now scratch)) ⌝ }
-    ensures rows { λ r. ⌜ ((J : ℕ → ℕ) (L : ℕ → ℕ → ℕ) → FoundInRows (now (list .entry)) (now (stretches .entry)) n j J L → RowsOf (now (stretches .exit)) (rowLength n) n (newOf J p j L)) ⌝ }
-    ensures changes { λ r. ⌜ ((J : ℕ → ℕ) (L : ℕ → ℕ → ℕ) → FoundInRows (now (list .entry)) (now (stretches .entry)) n j J L → r .gained + sumTo n (λ k. card.stretches (L k) n) ≡ r .lost + sumTo n (λ k. card.stretches (newOf J p j L k) n)) ⌝ }
-    ensures longest { λ r. ⌜ ((J : ℕ → ℕ) (L : ℕ → ℕ → ℕ) → FoundInRows (now (list .entry)) (now (stretches .entry)) n j J L → (B : ℕ) → ((k : ℕ) → 1 ≤ k → k ≤ n → card.stretches (L k) n ≤ B) → max B (r .longest) ≡ max B (mostTo n (λ k. card.stretches (newOf J p j L k) n))) ⌝ }
+    ensures rows { λ r. ⌜ RowsRenewed (now (list .entry)) (now (stretches .entry)) (now (stretches .exit)) n p j ⌝ }
+    ensures changes { λ r. ⌜ TotalChanged (now (list .entry)) (now (stretches .entry)) n p j r ⌝ }
+    ensures longest { λ r. ⌜ LongestMade (now (list .entry)) (now (stretches .entry)) n p j r ⌝ }
     ensures small { λ r. ⌜ r .gained < 2 ^ 36 ⌝ }
 {
     let width = row_length(n);
