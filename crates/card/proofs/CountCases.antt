@@ -11,12 +11,13 @@ use Rattle.terms.specs.declared.Refusal.the-variants as the-refusal
 use Rattle.card.specs.Counts.{isHit, slotOf, countsLent, largestCount, countingOf, countsAfter}
 use Rattle.card.specs.declared.counts.Counted.the-variants as the-counted
 use Rattle.card.specs.Answers.{countedAnswer}
+use Rattle.card.proofs.OutcomeCases.{past-six}
 
 -- ---- a number that is none of the six
 
 module _ (o : ℕ) (n₀ : o ≢ 0) (n₁ : o ≢ 1) (n₂ : o ≢ 2) (n₃ : o ≢ 3) (n₄ : o ≢ 4) (n₅ : o ≢ 5) where
   past : 6 ≤ o
-  past = omega arith
+  past = past-six o n₀ n₁ n₂ n₃ n₄ n₅
 
   pub no-hit : false ≡ isHit o
   unfolding isHit

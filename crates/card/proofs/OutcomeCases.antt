@@ -1,9 +1,10 @@
 -- The outcome from what was tested, and what was tested from the outcome.
 use mathlib.Core.Path.{_≡_, refl, sym, ap, ap₂, subst, _∙_}
+use mathlib.Core.Logic.{_≢_}
 use mathlib.Core.List.{List, [], _∷_}
 use Prim.Native.Nat.{ℕ, zero, suc, _≤_, _<_}
 use native.Mathlib.Omega.{arith}
-use lib.ListN.{length, getD}
+use lib.ListN.{length, getD, List·getD-eq-default}
 use Rattle.card.specs.Rule.{place, oneLower, outcome, effects, outcomeOn, movedFrom, afterRead}
 use Rattle.card.proofs.Tests.{by-lt, by-eq, tests}
 
@@ -66,20 +67,13 @@ arm-facts m j p n e =
     (λ a b. ((λ q. omega arith), (λ q. omega arith), (λ q. omega arith), (λ q. omega arith)))
     (λ a b. ((λ q. omega arith), (λ q. omega arith), (λ q. omega arith), (λ q. omega arith))))
 
-abbrev Still : List ℕ → (x j p : ℕ) → ℕ → Type 0
-Still c x j p n = (n ≡ 0 → ⊥) → (n ≡ 2 → ⊥) → (n ≡ 3 → ⊥) → (n ≡ 4 → ⊥) → c ≡ getD (effects c x j p) n c
+-- a number that is none of the six
+pub past-six : (o : ℕ) → o ≢ 0 → o ≢ 1 → o ≢ 2 → o ≢ 3 → o ≢ 4 → o ≢ 5 → 6 ≤ o
+past-six o n₀ n₁ n₂ n₃ n₄ n₅ = omega arith
 
--- the two outcomes that change nothing
-pub still : (c : List ℕ) (x m j p n : ℕ) → n ≡ outcome m j p → Still c x j p n
-still c x m j p n e =
-    subst (Still c x j p) (sym e)
-    (by-outcome (Still c x j p) m j p
-    (λ a b n₀ n₂ n₃ n₄. absurd (n₀ refl))
-    (λ a b n₀ n₂ n₃ n₄. refl)
-    (λ a b d n₀ n₂ n₃ n₄. absurd (n₂ refl))
-    (λ a b d n₀ n₂ n₃ n₄. absurd (n₃ refl))
-    (λ a b n₀ n₂ n₃ n₄. absurd (n₄ refl))
-    (λ a b n₀ n₂ n₃ n₄. refl))
+-- has no effect
+pub no-effect : (c : List ℕ) (x j p o : ℕ) → 6 ≤ o → c ≡ getD (effects c x j p) o c
+no-effect c x j p o h = sym (List·getD-eq-default (effects c x j p) c h)
 
 -- a block's place is in the card
 pub place-in : (c : List ℕ) (x : ℕ) → place c x ≤ length c

@@ -3,10 +3,10 @@ use mathlib.Core.Path.{_≡_, refl}
 use mathlib.Core.Bool.{cond}
 use mathlib.Core.Logic.{_≢_}
 use mathlib.Core.List.{List, [], _∷_}
-use Prim.Native.Nat.{ℕ, zero, suc, _+_, _≤_}
+use Prim.Native.Nat.{ℕ, zero, suc, _+_, _≤_, _<_}
 use native.Mathlib.Omega.{arith}
 use lib.Dec.{eqb}
-use lib.ListN.{length}
+use lib.ListN.{length, getD}
 use Rattle.terms.specs.Reads.{Read}
 use Rattle.card.specs.Rule.{place, outcome, outcomeOn}
 use Rattle.card.specs.Run.{blockRead, wanted, empty, next, outcomes, occurrences, count, misses}
@@ -18,6 +18,16 @@ use Rattle.card.proofs.Inclusion.{Under, under-next, under-empty, place
 pub six-outcomes : (m j p : ℕ) → outcome m j p ≤ 5
 six-outcomes m j p =
     by-outcome (λ n. n ≤ 5) m j p (λ a b. omega arith) (λ a b. omega arith) (λ a b l. omega arith) (λ a b l. omega arith) (λ a l. omega arith) (λ a l. omega arith)
+
+-- six values, and the one at an index
+pub six-at : (f : ℕ → ℕ) (d i : ℕ) → i < 6 → getD (f 0 ∷ f 1 ∷ f 2 ∷ f 3 ∷ f 4 ∷ f 5 ∷ []) i d ≡ f i
+six-at f d zero h = refl
+six-at f d (suc zero) h = refl
+six-at f d (suc (suc zero)) h = refl
+six-at f d (suc (suc (suc zero))) h = refl
+six-at f d (suc (suc (suc (suc zero)))) h = refl
+six-at f d (suc (suc (suc (suc (suc zero))))) h = refl
+six-at f d (suc (suc (suc (suc (suc (suc i)))))) h = absurd (omega arith)
 
 -- 1 where a number is the given one
 abbrev pub same : ℕ → ℕ → ℕ

@@ -10,7 +10,8 @@ use borrow.Author.Tests.{leb-true, not-true, not-false}
 use borrow.Rule.Slice.PartAt.{part-to-end}
 use Rattle.terms.specs.Ranges.{Range, inRange, size, volume, block}
 use Rattle.card.specs.Rule.{keyOf}
-use Rattle.card.proofs.Tests.{and-both, by-eq, tests}
+use Rattle.terms.proofs.Ranges.{and-both, bounds}
+use Rattle.card.proofs.Tests.{by-eq, tests}
 use Rattle.card.specs.State.{every, atMost, isEmpty, isKey, largestKey, apart, isState}
 
 -- the largest key, as the code has it
@@ -34,16 +35,12 @@ keys-are c = ap (λ (most : ℕ). every (atMost most) c) (sym largest-key)
 
 -- ---- the state
 
--- a value in its range is at most the largest
-pub in-range-most : (range : Range) (v : ℕ) → inRange range v ≡ true → v ≤ range .largest
-in-range-most range v e = leb-true v (range .largest) (and-both (leb (range .least) v) (leb v (range .largest)) e .1)
-
 pub state-size : (m : ℕ) (places : List ℕ) → isState m places ≡ true → m ≤ size .largest
 unfolding isState
-state-size m places e = in-range-most size m (and-both (inRange size m) _ e .0)
+state-size m places e = bounds size m (and-both (inRange size m) _ e .0) .1
 
 pub size-low : (m : ℕ) (t : Bool) → t ≡ inRange size m → not t ≡ false → m ≤ size .largest
-size-low m t i o = in-range-most size m (sym i ∙ not-false t o)
+size-low m t i o = bounds size m (sym i ∙ not-false t o) .1
 
 module _ (m : ℕ) (places : List ℕ) (t₁ : Bool) (i₁ : t₁ ≡ inRange size m) where
   pub no-size : not t₁ ≡ true → false ≡ isState m places

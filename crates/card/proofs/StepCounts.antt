@@ -17,7 +17,7 @@ use Rattle.card.specs.State.{Answer, Outcome, Refused}
 use Rattle.card.specs.Counts.{isHit, slotOf, countsLent, largestCount, countsAfter}
 use Rattle.card.proofs.Tests.{by-eq, tests}
 use Rattle.card.proofs.OutcomeCases.{by-outcome}
-use Rattle.card.proofs.Outcomes.{same, six-outcomes}
+use Rattle.card.proofs.Outcomes.{same, six-outcomes, six-at}
 use Rattle.card.proofs.ValidStates.{answers, steps-answer}
 
 -- a read is a hit exactly where its block is there
@@ -34,16 +34,6 @@ abbrev pub addedUp : List Answer → List ℕ → List ℕ
 addedUp [] counts = counts
 addedUp (Outcome o ∷ answered) counts = addedUp answered (countsAfter o counts)
 addedUp (Refused number ∷ answered) counts = addedUp answered counts
-
--- six values, and the one at an index
-six-at : (f : ℕ → ℕ) (d i : ℕ) → i < countsLent → getD (f 0 ∷ f 1 ∷ f 2 ∷ f 3 ∷ f 4 ∷ f 5 ∷ []) i d ≡ f i
-six-at f d zero h = refl
-six-at f d (suc zero) h = refl
-six-at f d (suc (suc zero)) h = refl
-six-at f d (suc (suc (suc zero))) h = refl
-six-at f d (suc (suc (suc (suc zero)))) h = refl
-six-at f d (suc (suc (suc (suc (suc zero))))) h = refl
-six-at f d (suc (suc (suc (suc (suc (suc i)))))) h = absurd (omega arith)
 
 -- the slot of an outcome is its number
 slot-is : (o : ℕ) → o ≤ 5 → slotOf o ≡ o

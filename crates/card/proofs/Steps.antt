@@ -7,11 +7,11 @@ use native.Mathlib.Nat.{mod-eq-of-lt}
 use native.Mathlib.Omega.{arith}
 use lib.ListN.{take, drop}
 use borrow.Author.Tests.{not-true, not-false}
+use Rattle.terms.proofs.Ranges.{bounds}
 use Rattle.terms.specs.declared.Refusal.the-variants.{State, Volume, Priority}
 use Rattle.terms.specs.Ranges.{inRange, size, volume, block, priority}
 use Rattle.card.specs.Rule.{keyOf, outcomeOn, afterRead}
 use Rattle.card.specs.State.{isState, Outcome, Stepped, refusing, stepOf}
-use Rattle.card.proofs.States.{in-range-most}
 
 -- a volume and a block in their ranges have the key that the code makes
 key-is : (v b : ℕ) → v ≤ volume .largest → b ≤ block .largest → keyOf (v % suc (volume .largest)) (b % suc (block .largest)) ≡ keyOf v b
@@ -45,5 +45,5 @@ module _ (m : ℕ) (places : List ℕ) (v b p : ℕ) (t₁ : Bool) (i₁ : t₁ 
           → steppedTo m n last ≡ stepOf m places v b p
       unfolding stepOf
       stepped h w key n last e g =
-          let k : key ≡ keyOf v b = e ∙ key-is v b (in-range-most volume v (sym i₂ ∙ not-false t₂ o₂)) (word-low b w) in
+          let k : key ≡ keyOf v b = e ∙ key-is v b (bounds volume v (sym i₂ ∙ not-false t₂ o₂) .1) (word-low b w) in
           rw (← i₁, not-false t₁ o₁, ← i₂, not-false t₂ o₂, ← i₃, not-false t₃ h, ← k) (ap₂ (steppedTo m) (g .0) (g .1))

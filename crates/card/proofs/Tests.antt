@@ -45,10 +45,6 @@ here-some j h = by-eq j 0 (λ e. absurd (let g = simp tests at h in omega arith)
 pub some-here : (j : ℕ) → 0 < j → here j ≡ 1
 some-here j h = let e : j ≢ 0 = omega arith in simp tests
 
--- a conjunction and its two parts
-pub and-both : (s t : Bool) → (s && t) ≡ true → (s ≡ true) × (t ≡ true)
-and-both true t h = (refl, h)
-and-both false t h = let z : _≡_ {A = ℕ} 0 1 = cc in absurd (omega arith)
-
+-- a conjunction from its two parts
 pub both-and : (s t : Bool) → s ≡ true → t ≡ true → (s && t) ≡ true
 both-and s t e f = rw (e, f)

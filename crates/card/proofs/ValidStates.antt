@@ -15,8 +15,8 @@ use Rattle.terms.specs.Ranges.{inRange, size, volume, block, priority}
 use Rattle.card.specs.Rule.{keyOf, place, oneLower, outcomeOn, afterRead}
 use Rattle.card.specs.Run.{blockRead, wanted, empty, next, run, cardAfter, outcomes}
 use Rattle.card.specs.State.{every, isEmpty, isKey, largestKey, apart, isState, Answer, Outcome, Stepped, stepOf, stepping, refusing}
-use Rattle.card.proofs.Tests.{by-eq, tests, and-both, both-and}
-use Rattle.card.proofs.States.{in-range-most}
+use Rattle.terms.proofs.Ranges.{and-both, bounds}
+use Rattle.card.proofs.Tests.{by-eq, tests, both-and}
 use Rattle.card.proofs.AfterRead.{length-after, apart-after, every-after, every-take}
 use Rattle.card.proofs.Inclusion.{key-some, wanted-some, apart-card}
 
@@ -86,7 +86,7 @@ unfolding largestKey keyOf
 key-most v b h g = omega (arith, mul-le-mul-right (suc (block .largest)) h)
 
 key-valid : (v b : ℕ) → inRange volume v ≡ true → b ≤ block .largest → isKey (keyOf v b) ≡ true
-key-valid v b h g = le-leb (keyOf v b) largestKey (key-most v b (in-range-most volume v h) g)
+key-valid v b h g = le-leb (keyOf v b) largestKey (key-most v b (bounds volume v h .1) g)
 
 module _ (m : ℕ) (places : List ℕ) (room : m ≤ length places) (ok : Valid m places) (x p : ℕ) (z : 0 < x) (one : 1 ≤ p) (k : isKey x ≡ true) where
   front : apart (take m places) ≡ true
@@ -146,7 +146,7 @@ module _ (m k : ℕ) where
   steps-from [] c e v ok = (refl, refl)
   steps-from (r ∷ rs) c e v ok =
       let here = step-next c r e v (ok .0) in
-      let more = steps-from rs (next c r) (length-after c (blockRead r) (wanted r) (wanted-some r) ∙ e) (subst (Valid m) (whole c r e) (valid-after m (c ++ empty k) (omega (arith, length-append c (empty k))) v (blockRead r) (wanted r) (key-some r) (wanted-some r) (key-valid (r .volume) (r .block) (ok .0 .0) (in-range-most block (r .block) (ok .0 .1))))) (ok .1) in
+      let more = steps-from rs (next c r) (length-after c (blockRead r) (wanted r) (wanted-some r) ∙ e) (subst (Valid m) (whole c r e) (valid-after m (c ++ empty k) (omega (arith, length-append c (empty k))) v (blockRead r) (wanted r) (key-some r) (wanted-some r) (key-valid (r .volume) (r .block) (ok .0 .0) (bounds block (r .block) (ok .0 .1) .1)))) (ok .1) in
       (ap (λ (s : Stepped). steps m (s .places) rs) here ∙ more .0, ap (λ (s : Stepped). s .answer ∷ answers m (s .places) rs) here ∙ ap (λ (l : List Answer). Outcome (outcomeOn c (blockRead r) (wanted r)) ∷ l) (more .1))
     where
       whole : (c : List ℕ) (r : Read) → length c ≡ m → afterRead (take m (c ++ empty k)) (blockRead r) (wanted r) ++ drop m (c ++ empty k) ≡ next c r ++ empty k

@@ -114,9 +114,11 @@ fn shift(card: &mut [u64], number: u32, j: usize, p: usize, key: u64)
     let size = card.len();
     match number {
         0 => lower(card, p, j, key),
+        1 => {}
         2 => raise(card, j, p, key),
         3 => raise(card, j, size, 0),
         4 => lower(card, p, size, key),
+        5 => {}
         _ => {}
     }
 }

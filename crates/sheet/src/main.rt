@@ -3,7 +3,7 @@ ghost use mathlib.Core.Path.{_≡_};
 ghost use Prim.Native.Nat.{_≤_};
 ghost use lib.ListN.{length};
 ghost use Rattle.sheet_text.specs.Desk.{printedOf};
-ghost use Rattle.sheet_text.specs.Sheet.{shown, longestSheet};
+ghost use Rattle.sheet_text.specs.Sheet.{longestSheet, Shows};
 use libc::STDIN_FILENO;
 use libc::STDOUT_FILENO;
 use sheet_text::desk::LARGEST_INPUT;
@@ -72,7 +72,7 @@ fn write_sheet(sheet: &[u8]) {
 
 // The sheet of an input as text, from the input alone: the areas have room for every trace.
 fn sheet_of(input: &[u8], text: &mut [u8]) -> usize
-    ensures text { λ r. ⌜ (r ≡ length (printedOf (now (input .entry)))) × (now (text .exit) ≡ shown (printedOf (now (input .entry))) (now (text .entry))) ⌝ }
+    ensures text { λ r. ⌜ Shows (printedOf (now (input .entry))) r (now (text .entry)) (now (text .exit)) ⌝ }
     ensures short { λ r. ⌜ r ≤ longestSheet ⌝ }
 {
     let mut blocks = [0u64; LARGEST_SIZE];

@@ -1,5 +1,6 @@
 -- The sheet as bytes, from what a run answers and the counts that it leaves.
 use Prim.Native.Nat.{ℕ, zero, suc, _+_, _*_}
+use mathlib.Core.Path.{_≡_}
 use mathlib.Core.List.{List, [], _∷_, _++_}
 use lib.ListN.{length, getD, take, drop}
 use Rattle.trace.specs.Reading.{Reading, Given, Refused, Header, headerAt}
@@ -75,3 +76,7 @@ longestSheet = 32768
 -- a text area with bytes at its front, as far as they fit
 abbrev pub shown : (bytes text : List ℕ) → List ℕ
 shown bytes text = take (length text) bytes ++ drop (length bytes) text
+
+-- a call shows bytes: its answer is how many there are, and the text after it has them at its front
+abbrev pub Shows : (bytes : List ℕ) (answer : ℕ) (before after : List ℕ) → Type 0
+Shows bytes answer before after = (answer ≡ length bytes) × (after ≡ shown bytes before)

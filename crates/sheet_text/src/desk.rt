@@ -8,7 +8,7 @@ ghost use Prim.Native.Nat.{_≤_};
 ghost use lib.ListN.{length};
 ghost use Rattle.sizes.specs.Answers.{areasOf, AreasAre};
 ghost use Rattle.sheet_text.specs.Desk.{deskSheetOf, areasAfter};
-ghost use Rattle.sheet_text.specs.Sheet.{shown, longestSheet};
+ghost use Rattle.sheet_text.specs.Sheet.{longestSheet, Shows};
 
 pub const LARGEST_INPUT: usize = 16384;
 
@@ -20,10 +20,10 @@ pub fn desk_sheet(
     counts: &mut [u64],
     text: &mut [u8],
 ) -> usize
-    ensures text { λ r. ⌜ (r ≡ length (deskSheetOf (now (trace .entry)) (areasOf (now (blocks .entry)) (now (stretches .entry)) (now (counts .entry)))))
-        × (now (text .exit) ≡ shown (deskSheetOf (now (trace .entry)) (areasOf (now (blocks .entry)) (now (stretches .entry)) (now (counts .entry)))) (now (text .entry))) ⌝ }
+    ensures text { λ r. ⌜ Shows (deskSheetOf (now (trace .entry)) (areasOf (now (blocks .entry)) (now (stretches .entry)) (now (counts .entry)))) r (now (text .entry)) (now (text .exit)) ⌝ }
     ensures short { λ r. ⌜ r ≤ longestSheet ⌝ }
-    ensures areas { λ r. ⌜ AreasAre (areasAfter (now (trace .entry)) (areasOf (now (blocks .entry)) (now (stretches .entry)) (now (counts .entry)))) (now (blocks .exit)) (now (stretches .exit)) (now (counts .exit)) ⌝ }
+    ensures areas { λ r. ⌜ AreasAre (areasAfter (now (trace .entry)) (areasOf (now (blocks .entry)) (now (stretches .entry)) (now (counts .entry))))
+        (now (blocks .exit)) (now (stretches .exit)) (now (counts .exit)) ⌝ }
 {
     if LARGEST_INPUT < trace.len() {
         return put_refused(text, refusal_number(Refusal::Large), LARGEST_INPUT);

@@ -12,9 +12,8 @@ ghost use mathlib.Core.Path.{_≡_};
 ghost use Prim.Native.Nat.{ℕ, _+_, _*_, _^_, _<_, _≤_};
 ghost use lib.ListN.{length};
 ghost use Rattle.trace.specs.Reading.{headerAt};
-ghost use Rattle.sizes.specs.Outcome.{runOf};
-ghost use Rattle.sizes.specs.Answers.{areasOf, AreasAre};
-ghost use Rattle.sheet_text.specs.Sheet.{cell, heading, sixOf, lineOf, linesOf, sizeIn, sheetOf, shown, longestSheet};
+ghost use Rattle.sizes.specs.Answers.{areasOf, AreasAre, runIn};
+ghost use Rattle.sheet_text.specs.Sheet.{cell, heading, sixOf, lineOf, linesOf, sizeIn, sheetOf, longestSheet, Shows};
 ghost use Rattle.sheet_text.specs.Writing.{Wrote};
 
 // The first line.
@@ -90,10 +89,10 @@ pub fn sheet(
     counts: &mut [u64],
     text: &mut [u8],
 ) -> usize
-    ensures text { λ r. ⌜ (r ≡ length (sheetOf (now (trace .entry)) (areasOf (now (blocks .entry)) (now (stretches .entry)) (now (counts .entry)))))
-        × (now (text .exit) ≡ shown (sheetOf (now (trace .entry)) (areasOf (now (blocks .entry)) (now (stretches .entry)) (now (counts .entry)))) (now (text .entry))) ⌝ }
+    ensures text { λ r. ⌜ Shows (sheetOf (now (trace .entry)) (areasOf (now (blocks .entry)) (now (stretches .entry)) (now (counts .entry)))) r (now (text .entry)) (now (text .exit)) ⌝ }
     ensures short { λ r. ⌜ r ≤ longestSheet ⌝ }
-    ensures areas { λ r. ⌜ AreasAre (runOf (now (trace .entry)) (areasOf (now (blocks .entry)) (now (stretches .entry)) (now (counts .entry))) .areas) (now (blocks .exit)) (now (stretches .exit)) (now (counts .exit)) ⌝ }
+    ensures areas { λ r. ⌜ AreasAre (runIn (now (trace .entry)) (now (blocks .entry)) (now (stretches .entry)) (now (counts .entry)) .areas)
+        (now (blocks .exit)) (now (stretches .exit)) (now (counts .exit)) ⌝ }
 {
     match run(trace, blocks, stretches, counts) {
         Ran::Done { reads, total, one } => {

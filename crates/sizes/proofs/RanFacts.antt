@@ -17,7 +17,7 @@ use Rattle.trace.specs.Trace.{andThen, readsFrom, Trace, traceOf}
 use Rattle.card.specs.Run.{count}
 use Rattle.card.specs.Stretches.{placesOf, stretches, blocksOf, total, mostOfOne, largestAfter, peakTotal, peakOfOne, half}
 use Rattle.card.proofs.Tests.{by-lt}
-use Rattle.card.proofs.Outcomes.{counts-sum, fewer-misses}
+use Rattle.card.proofs.Outcomes.{six-at, counts-sum, fewer-misses}
 use Rattle.card.proofs.Members.{largest-within}
 use Rattle.card.proofs.Blocks.{some-blocks}
 use Rattle.card.proofs.StretchBounds.{stretches-half}
@@ -102,15 +102,6 @@ module _ (bytes : List ℕ) (areas : Areas) (t : Trace) (end : ℕ) where
 abbrev sixOf : ℕ → List Read → List ℕ
 sixOf m rs = count m 0 rs ∷ count m 1 rs ∷ count m 2 rs ∷ count m 3 rs ∷ count m 4 rs ∷ count m 5 rs ∷ []
 
-six-at : (m : ℕ) (rs : List Read) (o : ℕ) → o < 6 → getD (sixOf m rs) o 0 ≡ count m o rs
-six-at m rs zero h = refl
-six-at m rs (suc zero) h = refl
-six-at m rs (suc (suc zero)) h = refl
-six-at m rs (suc (suc (suc zero))) h = refl
-six-at m rs (suc (suc (suc (suc zero)))) h = refl
-six-at m rs (suc (suc (suc (suc (suc zero))))) h = refl
-six-at m rs (suc (suc (suc (suc (suc (suc o)))))) h = absurd (omega arith)
-
 -- they stand after those of the sizes below it
 pub count-at : (n : ℕ) (rs : List Read) (m o : ℕ) → m < n → o < 6 → getD (countsOf n rs) (6 * m + o) 0 ≡ count (suc m) o rs
 unfolding countsOf
@@ -121,7 +112,7 @@ count-at (suc n) rs m o h g =
     List·getD-append (countsOf n rs) (sixOf (suc n) rs) 0 (6 * m + o) inside ∙ count-at n rs m o l g)
     (λ l. let last : m ≡ n = omega arith in
     let at : 6 * m + o ≡ length (countsOf n rs) + o = omega (arith, counts-length n rs) in
-    ap (λ (i : ℕ). getD (countsOf (suc n) rs) i 0) at ∙ getD-append-add (countsOf n rs) (sixOf (suc n) rs) o 0 ∙ six-at (suc n) rs o g ∙ ap (λ (k : ℕ). count (suc k) o rs) (sym last))
+    ap (λ (i : ℕ). getD (countsOf (suc n) rs) i 0) at ∙ getD-append-add (countsOf n rs) (sixOf (suc n) rs) o 0 ∙ six-at (λ k. count (suc n) k rs) 0 o g ∙ ap (λ (k : ℕ). count (suc k) o rs) (sym last))
 
 -- ---- the peaks
 

@@ -10,7 +10,7 @@ use borrow.Author.Tests.{leb-true, not-true, not-false}
 use Rattle.terms.specs.declared.Refusal.{Refusal}
 use Rattle.terms.specs.declared.Refusal.the-variants.{Room}
 use Rattle.terms.specs.Refusals.{numberOf}
-use Rattle.terms.specs.Ranges.{inRange, edition, size}
+use Rattle.terms.specs.Ranges.{size}
 use Rattle.terms.specs.Reads.{Read}
 use Rattle.trace.specs.declared.header.Header.{Header}
 use Rattle.trace.specs.declared.header.Header.the-variants as the-header
@@ -18,9 +18,10 @@ use Rattle.trace.specs.Reading.{Reading, Given, Refused, headerOf, headerAt}
 use Rattle.trace.specs.Trace.{readsFrom}
 use Rattle.trace.specs.Answers.{headerAnswer}
 use Rattle.trace.proofs.Ends.{Within, header-within}
-use Rattle.trace.proofs.OneSpelling.{Gives, gives-field}
+use Rattle.trace.proofs.OneSpelling.{Gives}
+use Rattle.trace.proofs.Lengths.{header-given}
 use Rattle.card.specs.Run.{count}
-use Rattle.card.proofs.Tests.{and-both}
+use Rattle.terms.proofs.Ranges.{and-both, bounds}
 use Rattle.sizes.specs.Outcome as outcome
 use Rattle.sizes.specs.Outcome.{Areas, Outcome, stretchesLength, countsLength, isRoom, countsOf, fronted, zeros, untouched, emptied, recorded, headed, runOf}
 use Rattle.sizes.specs.Passing.{answered, counted}
@@ -59,10 +60,6 @@ module _ (blocks stretches counts : List ℕ) (n : ℕ) (x : Reading (List Read)
 
 -- ---- the header
 
-header-good : (s : List ℕ) → Gives (λ h end. inRange size (h .size) ≡ true) (headerAt s 0)
-unfolding headerAt
-header-good s = gives-field _ edition s 0 _ (λ e n₁ e₁ r₁. gives-field _ size s (0 + n₁) _ (λ n n₂ e₂ r₂. r₂))
-
 least-size : (n : ℕ) → size .least ≤ n → 1 ≤ n
 unfolding size
 least-size n h = h
@@ -72,8 +69,8 @@ module _ (s : List ℕ) (a : Header) (e : headerAnswer a ≡ headerAt s 0) where
   pub header-in : (v n l : ℕ) → a ≡ the-header.Accepted v n l → (1 ≤ n) × (n ≤ size .largest) × (l ≤ length s)
   header-in v n l g =
       let is : headerAt s 0 ≡ Given (headerOf v n) l = sym e ∙ ap headerAnswer g in
-      let good = and-both (leb (size .least) n) (leb n (size .largest)) (subst (Gives (λ h end. inRange size (h .size) ≡ true)) is (header-good s)) in
-      (least-size n (leb-true (size .least) n (good .0)), leb-true n (size .largest) (good .1), subst (Within 0 (length s)) is (header-within s 0 (omega arith)) .1)
+      let good = bounds size n (subst (Gives _) is (header-given s 0) .0 .1) in
+      (least-size n (good .0), good .1, subst (Within 0 (length s)) is (header-within s 0 (omega arith)) .1)
 
   module _ (areas : Areas) where
     headed-by : (b : Header) → a ≡ b → runOf s areas ≡ headed s areas (headerAnswer b)

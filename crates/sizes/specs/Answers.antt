@@ -19,3 +19,7 @@ areasOf blocks stretches counts = record { blocks = blocks; stretches = stretche
 -- the three areas, as they should be left
 abbrev pub AreasAre : outcome.Areas → (blocks stretches counts : List ℕ) → Type 0
 AreasAre areas blocks stretches counts = (blocks ≡ areas .blocks) × (stretches ≡ areas .stretches) × (counts ≡ areas .counts)
+
+-- what a run answers and leaves, with these areas lent
+abbrev pub runIn : (bytes blocks stretches counts : List ℕ) → outcome.Outcome
+runIn bytes blocks stretches counts = outcome.runOf bytes (areasOf blocks stretches counts)

@@ -19,9 +19,9 @@ ghost use Rattle.terms.specs.Ranges.{size};
 ghost use Rattle.terms.specs.Reads.{Read};
 ghost use Rattle.trace.specs.Reading.{Reading};
 ghost use Rattle.trace.specs.Trace.{readsFrom};
-ghost use Rattle.sizes.specs.Outcome.{blocksLength, stretchesLength, countsLength, zeros, fronted, runOf};
+ghost use Rattle.sizes.specs.Outcome.{blocksLength, stretchesLength, countsLength, zeros, fronted};
 ghost use Rattle.sizes.specs.Passing.{answered, counted, TalliedBy};
-ghost use Rattle.sizes.specs.Answers.{ranAnswer, areasOf, AreasAre};
+ghost use Rattle.sizes.specs.Answers.{ranAnswer, AreasAre, runIn};
 
 pub enum Ran {
     // The reads, and the peaks of the stretches of all blocks and of one.
@@ -173,8 +173,9 @@ fn is_room(n: usize, blocks: usize, stretches: usize, counts: usize) -> bool
 
 // Reads a whole trace. A refusal before the first record leaves the areas untouched; what lies past the lengths that the size asks for stays as it was.
 pub fn run(trace: &[u8], blocks: &mut [u64], stretches: &mut [u16], counts: &mut [u64]) -> Ran
-    ensures answer { λ r. ⌜ ranAnswer r ≡ runOf (now (trace .entry)) (areasOf (now (blocks .entry)) (now (stretches .entry)) (now (counts .entry))) .answer ⌝ }
-    ensures areas { λ r. ⌜ AreasAre (runOf (now (trace .entry)) (areasOf (now (blocks .entry)) (now (stretches .entry)) (now (counts .entry))) .areas) (now (blocks .exit)) (now (stretches .exit)) (now (counts .exit)) ⌝ }
+    ensures answer { λ r. ⌜ ranAnswer r ≡ runIn (now (trace .entry)) (now (blocks .entry)) (now (stretches .entry)) (now (counts .entry)) .answer ⌝ }
+    ensures areas { λ r. ⌜ AreasAre (runIn (now (trace .entry)) (now (blocks .entry)) (now (stretches .entry)) (now (counts .entry)) .areas)
+        (now (blocks .exit)) (now (stretches .exit)) (now (counts .exit)) ⌝ }
 {
     match read_header(trace) {
         Header::Accepted {

@@ -12,9 +12,8 @@ ghost use Rattle.terms.specs.Reads.{readOf};
 ghost use Rattle.trace.specs.Reading.{headerAt, headerOf, recordAt};
 ghost use Rattle.trace.specs.Answers.{writtenAnswer};
 ghost use Rattle.trace.specs.Writing.{headerWriting, recordWriting, headerBuffer, recordBuffer};
-ghost use Rattle.sizes.specs.Outcome.{runOf};
-ghost use Rattle.sizes.specs.Answers.{areasOf, AreasAre};
-ghost use Rattle.sheet_text.specs.Sheet.{sheetOf, shown};
+ghost use Rattle.sizes.specs.Answers.{areasOf, AreasAre, runIn};
+ghost use Rattle.sheet_text.specs.Sheet.{sheetOf, Shows};
 ghost use Rattle.supharoek.specs.Told.{Tells, headerTold, recordTold, writingTold, runTold};
 
 // Reads a header: edition, size, length; or the place of the refusal.
@@ -117,8 +116,9 @@ pub extern "C" fn supharoek_run(
     counts: &mut [u64],
     out: &mut [u64],
 ) -> u32
-    ensures told { λ r. ⌜ Tells (runTold (runOf (now (trace .entry)) (areasOf (now (blocks .entry)) (now (stretches .entry)) (now (counts .entry))) .answer)) r (now (out .entry)) (now (out .exit)) ⌝ }
-    ensures areas { λ r. ⌜ AreasAre (runOf (now (trace .entry)) (areasOf (now (blocks .entry)) (now (stretches .entry)) (now (counts .entry))) .areas) (now (blocks .exit)) (now (stretches .exit)) (now (counts .exit)) ⌝ }
+    ensures told { λ r. ⌜ Tells (runTold (runIn (now (trace .entry)) (now (blocks .entry)) (now (stretches .entry)) (now (counts .entry)) .answer)) r (now (out .entry)) (now (out .exit)) ⌝ }
+    ensures areas { λ r. ⌜ AreasAre (runIn (now (trace .entry)) (now (blocks .entry)) (now (stretches .entry)) (now (counts .entry)) .areas)
+        (now (blocks .exit)) (now (stretches .exit)) (now (counts .exit)) ⌝ }
 {
     match sizes::run::run(trace, blocks, stretches, counts) {
         Ran::Done { reads, total, one } => {
@@ -142,9 +142,9 @@ pub extern "C" fn supharoek_sheet(
     counts: &mut [u64],
     text: &mut [u8],
 ) -> usize
-    ensures text { λ r. ⌜ (r ≡ length (sheetOf (now (trace .entry)) (areasOf (now (blocks .entry)) (now (stretches .entry)) (now (counts .entry)))))
-        × (now (text .exit) ≡ shown (sheetOf (now (trace .entry)) (areasOf (now (blocks .entry)) (now (stretches .entry)) (now (counts .entry)))) (now (text .entry))) ⌝ }
-    ensures areas { λ r. ⌜ AreasAre (runOf (now (trace .entry)) (areasOf (now (blocks .entry)) (now (stretches .entry)) (now (counts .entry))) .areas) (now (blocks .exit)) (now (stretches .exit)) (now (counts .exit)) ⌝ }
+    ensures text { λ r. ⌜ Shows (sheetOf (now (trace .entry)) (areasOf (now (blocks .entry)) (now (stretches .entry)) (now (counts .entry)))) r (now (text .entry)) (now (text .exit)) ⌝ }
+    ensures areas { λ r. ⌜ AreasAre (runIn (now (trace .entry)) (now (blocks .entry)) (now (stretches .entry)) (now (counts .entry)) .areas)
+        (now (blocks .exit)) (now (stretches .exit)) (now (counts .exit)) ⌝ }
 {
     sheet_text::sheet::sheet(trace, blocks, stretches, counts, text)
 }

@@ -6,12 +6,10 @@ use lib.Dec.{leb}
 use borrow.Author.Tests.{leb-true}
 use Rattle.terms.specs.Ranges.{Range, inRange}
 
-and-both : (s t : Bool) → s && t ≡ true → (s ≡ true) × (t ≡ true)
+-- a conjunction and its two parts
+pub and-both : (s t : Bool) → s && t ≡ true → (s ≡ true) × (t ≡ true)
 and-both true t e = (refl, e)
-and-both false t e = absurd-false e
-  where
-    absurd-false : false ≡ true → (false ≡ true) × (t ≡ true)
-    absurd-false q = (q, cc)
+and-both false t e = (e, cc)
 
 -- a number that passes lies between the two ends
 pub bounds : (range : Range) (v : ℕ) → inRange range v ≡ true → (range .least ≤ v) × (v ≤ range .largest)
