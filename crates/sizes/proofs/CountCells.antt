@@ -6,6 +6,7 @@ use native.Mathlib.Omega.{arith}
 use lib.ListN.{length, getD, set, length-set}
 use lib.Seq.{getD-set-same, getD-set-other}
 use Rattle.sizes.specs.TallySteps.{Ordered, CountsWritten}
+use Rattle.sizes.specs.declared.tallies.SixSums.{SixSums}
 
 module _ (l₀ : List ℕ) (at v₀ v₁ v₂ v₃ v₄ v₅ : ℕ) where
   abbrev l₁ : List ℕ
@@ -75,18 +76,18 @@ module _ (l₀ : List ℕ) (at v₀ v₁ v₂ v₃ v₄ v₅ : ℕ) where
     cell₅ = getD-set-same l₅ (at + 5) v₅ 0 (simp length-set (omega arith))
 
 -- the way out
-module _ (l : List ℕ) (at s₀ s₁ s₂ s₃ s₄ s₅ reads : ℕ) where
+module _ (l : List ℕ) (at : ℕ) (s : SixSums) (reads : ℕ) where
   abbrev stored : List ℕ
-  stored = l₆ l at (s₀ + s₅ - s₁) (s₁ - s₂) s₂ (s₃ - s₅) (s₄ - s₀) (reads - s₄ - s₃)
+  stored = l₆ l at (s .zeroth + s .fifth - s .first) (s .first - s .second) (s .second) (s .third - s .fifth) (s .fourth - s .zeroth) (reads - s .fourth - s .third)
 
-  pub written : at + 6 ≤ length l → Ordered s₀ s₁ s₂ s₃ s₄ s₅ reads → CountsWritten l stored at s₀ s₁ s₂ s₃ s₄ s₅ reads
+  pub written : at + 6 ≤ length l → Ordered s reads → CountsWritten l stored at s reads
   written room ordered = record {
-    ups = omega (arith, cell₀ l at (s₀ + s₅ - s₁) (s₁ - s₂) s₂ (s₃ - s₅) (s₄ - s₀) (reads - s₄ - s₃) room);
-    sames = omega (arith, cell₁ l at (s₀ + s₅ - s₁) (s₁ - s₂) s₂ (s₃ - s₅) (s₄ - s₀) (reads - s₄ - s₃) room);
-    downs = omega (arith, cell₂ l at (s₀ + s₅ - s₁) (s₁ - s₂) s₂ (s₃ - s₅) (s₄ - s₀) (reads - s₄ - s₃) room);
-    hitBypasses = omega (arith, cell₃ l at (s₀ + s₅ - s₁) (s₁ - s₂) s₂ (s₃ - s₅) (s₄ - s₀) (reads - s₄ - s₃) room);
-    inserts = omega (arith, cell₄ l at (s₀ + s₅ - s₁) (s₁ - s₂) s₂ (s₃ - s₅) (s₄ - s₀) (reads - s₄ - s₃) room);
-    missBypasses = omega (arith, cell₅ l at (s₀ + s₅ - s₁) (s₁ - s₂) s₂ (s₃ - s₅) (s₄ - s₀) (reads - s₄ - s₃) room);
-    before = later₀ l at (s₀ + s₅ - s₁) (s₁ - s₂) s₂ (s₃ - s₅) (s₄ - s₀) (reads - s₄ - s₃);
-    after = beyond l at (s₀ + s₅ - s₁) (s₁ - s₂) s₂ (s₃ - s₅) (s₄ - s₀) (reads - s₄ - s₃);
+    ups = omega (arith, cell₀ l at (s .zeroth + s .fifth - s .first) (s .first - s .second) (s .second) (s .third - s .fifth) (s .fourth - s .zeroth) (reads - s .fourth - s .third) room);
+    sames = omega (arith, cell₁ l at (s .zeroth + s .fifth - s .first) (s .first - s .second) (s .second) (s .third - s .fifth) (s .fourth - s .zeroth) (reads - s .fourth - s .third) room);
+    downs = omega (arith, cell₂ l at (s .zeroth + s .fifth - s .first) (s .first - s .second) (s .second) (s .third - s .fifth) (s .fourth - s .zeroth) (reads - s .fourth - s .third) room);
+    hitBypasses = omega (arith, cell₃ l at (s .zeroth + s .fifth - s .first) (s .first - s .second) (s .second) (s .third - s .fifth) (s .fourth - s .zeroth) (reads - s .fourth - s .third) room);
+    inserts = omega (arith, cell₄ l at (s .zeroth + s .fifth - s .first) (s .first - s .second) (s .second) (s .third - s .fifth) (s .fourth - s .zeroth) (reads - s .fourth - s .third) room);
+    missBypasses = omega (arith, cell₅ l at (s .zeroth + s .fifth - s .first) (s .first - s .second) (s .second) (s .third - s .fifth) (s .fourth - s .zeroth) (reads - s .fourth - s .third) room);
+    before = later₀ l at (s .zeroth + s .fifth - s .first) (s .first - s .second) (s .second) (s .third - s .fifth) (s .fourth - s .zeroth) (reads - s .fourth - s .third);
+    after = beyond l at (s .zeroth + s .fifth - s .first) (s .first - s .second) (s .second) (s .third - s .fifth) (s .fourth - s .zeroth) (reads - s .fourth - s .third);
   }

@@ -7,6 +7,7 @@ use lib.Dec.{ltb, leb}
 use lib.ListN.{getD, set}
 use Rattle.card.specs.Stretches.{stretches}
 use Rattle.sizes.specs.Tallies.{TallySums, isOutcome}
+use Rattle.sizes.specs.declared.tallies.SixSums.{SixSums}
 
 -- one more in tally k of size m, where m is a size
 unfoldable pub bumped : List ℕ → (n k m : ℕ) → List ℕ
@@ -46,37 +47,37 @@ Finished entry exit n reads =
     → TallySums entry m reads (getD exit (6 * (m - 1)) 0) (getD exit (6 * (m - 1) + 1) 0) (getD exit (6 * (m - 1) + 2) 0) (getD exit (6 * (m - 1) + 3) 0) (getD exit (6 * (m - 1) + 4) 0) (getD exit (6 * (m - 1) + 5) 0)
 
 -- six sums with the six tallies from an index on: what they are, and that they are small
-pub record More (counts : List ℕ) (at s₀ s₁ s₂ s₃ s₄ s₅ r₀ r₁ r₂ r₃ r₄ r₅ : ℕ) : Type 0 where
-  pub zeroth : r₀ ≡ s₀ + getD counts at 0
-  pub first : r₁ ≡ s₁ + getD counts (at + 1) 0
-  pub second : r₂ ≡ s₂ + getD counts (at + 2) 0
-  pub third : r₃ ≡ s₃ + getD counts (at + 3) 0
-  pub fourth : r₄ ≡ s₄ + getD counts (at + 4) 0
-  pub fifth : r₅ ≡ s₅ + getD counts (at + 5) 0
+pub record More (counts : List ℕ) (at : ℕ) (s r : SixSums) : Type 0 where
+  pub zeroth : r .zeroth ≡ s .zeroth + getD counts at 0
+  pub first : r .first ≡ s .first + getD counts (at + 1) 0
+  pub second : r .second ≡ s .second + getD counts (at + 2) 0
+  pub third : r .third ≡ s .third + getD counts (at + 3) 0
+  pub fourth : r .fourth ≡ s .fourth + getD counts (at + 4) 0
+  pub fifth : r .fifth ≡ s .fifth + getD counts (at + 5) 0
 
-pub record SmallSums (counts : List ℕ) (at s₀ s₁ s₂ s₃ s₄ s₅ : ℕ) : Type 0 where
-  pub zeroth : s₀ + getD counts at 0 < 2 ^ 63
-  pub first : s₁ + getD counts (at + 1) 0 < 2 ^ 63
-  pub second : s₂ + getD counts (at + 2) 0 < 2 ^ 63
-  pub third : s₃ + getD counts (at + 3) 0 < 2 ^ 63
-  pub fourth : s₄ + getD counts (at + 4) 0 < 2 ^ 63
-  pub fifth : s₅ + getD counts (at + 5) 0 < 2 ^ 63
+pub record SmallSums (counts : List ℕ) (at : ℕ) (s : SixSums) : Type 0 where
+  pub zeroth : s .zeroth + getD counts at 0 < 2 ^ 63
+  pub first : s .first + getD counts (at + 1) 0 < 2 ^ 63
+  pub second : s .second + getD counts (at + 2) 0 < 2 ^ 63
+  pub third : s .third + getD counts (at + 3) 0 < 2 ^ 63
+  pub fourth : s .fourth + getD counts (at + 4) 0 < 2 ^ 63
+  pub fifth : s .fifth + getD counts (at + 5) 0 < 2 ^ 63
 
 -- six sums that give counts
-pub record Ordered (s₀ s₁ s₂ s₃ s₄ s₅ reads : ℕ) : Type 0 where
-  pub ups : s₁ ≤ s₀ + s₅
-  pub sames : s₂ ≤ s₁
-  pub hitBypasses : s₅ ≤ s₃
-  pub inserts : s₀ ≤ s₄
-  pub missBypasses : s₄ + s₃ ≤ reads
+pub record Ordered (s : SixSums) (reads : ℕ) : Type 0 where
+  pub ups : s .first ≤ s .zeroth + s .fifth
+  pub sames : s .second ≤ s .first
+  pub hitBypasses : s .fifth ≤ s .third
+  pub inserts : s .zeroth ≤ s .fourth
+  pub missBypasses : s .fourth + s .third ≤ reads
 
 -- the six cells from an index on hold the counts that six sums give, and the others are as they were
-pub record CountsWritten (entry exit : List ℕ) (at s₀ s₁ s₂ s₃ s₄ s₅ reads : ℕ) : Type 0 where
-  pub ups : s₁ + getD exit at 0 ≡ s₀ + s₅
-  pub sames : s₂ + getD exit (at + 1) 0 ≡ s₁
-  pub downs : s₂ ≡ getD exit (at + 2) 0
-  pub hitBypasses : s₅ + getD exit (at + 3) 0 ≡ s₃
-  pub inserts : s₀ + getD exit (at + 4) 0 ≡ s₄
-  pub missBypasses : s₄ + s₃ + getD exit (at + 5) 0 ≡ reads
+pub record CountsWritten (entry exit : List ℕ) (at : ℕ) (s : SixSums) (reads : ℕ) : Type 0 where
+  pub ups : s .first + getD exit at 0 ≡ s .zeroth + s .fifth
+  pub sames : s .second + getD exit (at + 1) 0 ≡ s .first
+  pub downs : s .second ≡ getD exit (at + 2) 0
+  pub hitBypasses : s .fifth + getD exit (at + 3) 0 ≡ s .third
+  pub inserts : s .zeroth + getD exit (at + 4) 0 ≡ s .fourth
+  pub missBypasses : s .fourth + s .third + getD exit (at + 5) 0 ≡ reads
   pub before : (x : ℕ) → x < at → getD exit x 0 ≡ getD entry x 0
   pub after : (x : ℕ) → at + 6 ≤ x → getD exit x 0 ≡ getD entry x 0

@@ -95,9 +95,8 @@ struct SixSums {
 
 // The sums with one size more, whose tallies start at an index.
 fn add_size(counts: &[u64], at: usize, s: SixSums) -> SixSums
-    requires { ⌜ (at + 6 ≤ length (now counts)) × SmallSums (now counts) at (s .zeroth) (s .first) (s .second) (s .third) (s .fourth) (s .fifth) ⌝ }
-    ensures { λ r. ⌜ More (now (counts .entry)) at (s .zeroth) (s .first) (s .second) (s .third) (s .fourth) (s .fifth)
-        (r .zeroth) (r .first) (r .second) (r .third) (r .fourth) (r .fifth) ⌝ }
+    requires { ⌜ (at + 6 ≤ length (now counts)) × SmallSums (now counts) at s ⌝ }
+    ensures { λ r. ⌜ More (now (counts .entry)) at s r ⌝ }
 {
     SixSums {
         zeroth: s.zeroth + counts[at],
@@ -111,8 +110,8 @@ fn add_size(counts: &[u64], at: usize, s: SixSums) -> SixSums
 
 // The six counts that the sums of a size give, over the tallies of that size.
 fn write_size(counts: &mut [u64], at: usize, s: SixSums, reads: u64)
-    requires { ⌜ (at + 6 ≤ length (now counts)) × (reads < 2 ^ 62) × Ordered (s .zeroth) (s .first) (s .second) (s .third) (s .fourth) (s .fifth) reads ⌝ }
-    ensures { λ _. ⌜ CountsWritten (now (counts .entry)) (now (counts .exit)) at (s .zeroth) (s .first) (s .second) (s .third) (s .fourth) (s .fifth) reads ⌝ }
+    requires { ⌜ (at + 6 ≤ length (now counts)) × (reads < 2 ^ 62) × Ordered s reads ⌝ }
+    ensures { λ _. ⌜ CountsWritten (now (counts .entry)) (now (counts .exit)) at s reads ⌝ }
 {
     counts[at] = s.zeroth + s.fifth - s.first;
     counts[at + 1] = s.first - s.second;

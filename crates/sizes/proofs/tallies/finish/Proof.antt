@@ -11,7 +11,7 @@ use Rattle.sizes.proofs.tallies.finish.Tie as tie
 abbrev Inv-loop : tie.InvT-loop
 Inv-loop counts₀ n reads s₀ m₀ counts s m =
     (m ≤ n) × (length counts ≡ length counts₀)
-    × SizesCounted counts₀ counts m reads (s .zeroth) (s .first) (s .second) (s .third) (s .fourth) (s .fifth)
+    × SizesCounted counts₀ counts m reads s
 
 abbrev μ-loop : tie.MeasureT-loop
 μ-loop counts₀ n reads s₀ m₀ counts s m = n - m
