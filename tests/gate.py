@@ -1,4 +1,5 @@
-"""The gate itself, and that everything it goes by is there: programs for stored outputs, and a part for every test.
+"""The gate itself, and that everything it goes by is there: programs for stored outputs, a part for every test, and a
+row of docs/PROVED.md for every version that has to be refused.
 
     python3 tests/gate.py [GATE]
 
@@ -85,6 +86,14 @@ def check_parts(tally, gate):
     tally.equal('the gate runs every test', sorted(parts(gate)), sorted(tests))
 
 
+def check_versions(tally):
+    """Each version that has to be refused stands in the table with the words of its edit."""
+    edits = {str(path.relative_to(kit.ROOT)): path.read_text().partition('\n')[0].removeprefix('# ')
+             for path in kit.ROOT.glob('crates/*/must-fail/*.edit')}
+    rows = re.findall(r'^\| (.*) \| `(.*\.edit)` \|$', (kit.ROOT / 'docs' / 'PROVED.md').read_text(), re.MULTILINE)
+    tally.equal('the table of refused versions', sorted((path, words) for words, path in rows), sorted(edits.items()))
+
+
 class Gate:
     """A copy of the gate in a folder where `rt` and the tests end as they are told."""
 
@@ -143,6 +152,7 @@ def check_gate(tally, folder, gate):
 def main(gate=kit.ROOT / '.ci' / 'run'):
     tally, gate = compare.Tally(), pathlib.Path(gate)
     check_parts(tally, gate)
+    check_versions(tally)
     with tempfile.TemporaryDirectory() as name:
         check_stored(tally, pathlib.Path(name))
         check_gate(tally, pathlib.Path(name), gate)

@@ -15,7 +15,7 @@ use Rattle.card.specs.declared.step.Card.{Card}
 use Rattle.card.specs.declared.step.Stepped.{Stepped}
 use Rattle.card.specs.declared.ratio.MissRatio.{MissRatio}
 use Rattle.card.specs.declared.ratio.MissRatio.the-variants as the-ratio
-use Rattle.card.specs.Rule.{keyOf, place, outcomeOn, afterRead}
+use Rattle.card.specs.Rule.{keyOf, place, outcomeOn, movedFrom, afterRead}
 use Rattle.card.specs.Counts.{isHit, countingOf, countsAfter}
 use Rattle.card.specs.State as state
 use Rattle.card.specs.Ratio as ratio
@@ -70,6 +70,10 @@ pub read-determined : (c : List ℕ) (key p : ℕ) (x y : Found) (d d′ : List 
     → (x ≡ y) × (d ≡ d′)
 unfolding foundOf
 read-determined c key p x y d d′ e f = (ap₂ foundOf (one-value (e .0) (f .0)) (one-value (e .1) (f .1)), one-value (e .2) (f .2))
+
+-- its second half: the card after it
+pub moved-determined : (c : List ℕ) (key j p : ℕ) (d d′ : List ℕ) → d ≡ movedFrom c key j (max 1 p) → d′ ≡ movedFrom c key j (max 1 p) → d ≡ d′
+moved-determined c key j p d d′ e f = one-value e f
 
 -- a priority of at least 1
 pub priority-determined : (p x y : ℕ) → x ≡ max 1 p → y ≡ max 1 p → x ≡ y

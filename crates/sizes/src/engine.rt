@@ -61,8 +61,8 @@ pub fn read(
     priority: usize,
     sums: Sums,
 ) -> Sums
-    requires { ⌜ (1 ≤ n) × (n ≤ size .largest) × (length (now blocks) ≡ n) × (length (now stretches) ≡ stretchesLength n) × (length (now counts) ≡ countsLength n) × (rowLength n < length (now scratch))
-        × (0 < key) × ((x : ℕ) → getD (now counts) x 0 < 2 ^ 63)
+    requires { ⌜ (1 ≤ n) × (n ≤ size .largest) × (length (now blocks) ≡ n) × (length (now stretches) ≡ stretchesLength n) × (length (now counts) ≡ countsLength n)
+        × (rowLength n < length (now scratch)) × (0 < key) × ((x : ℕ) → getD (now counts) x 0 < 2 ^ 63)
         × ((rs : List Read) × Held n rs (now blocks) (now stretches) × Totals n rs (sums .now) (sums .most) (sums .one)) ⌝ }
     ensures held { λ s. ⌜ ((rs : List Read) (r : Read) → blockRead r ≡ key → wanted r ≡ max 1 priority → Held n rs (now (blocks .entry)) (now (stretches .entry))
         → Held n (rs ++ (r ∷ [])) (now (blocks .exit)) (now (stretches .exit))) ⌝ }

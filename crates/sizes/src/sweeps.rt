@@ -231,7 +231,8 @@ pub fn renew_all(
     p: usize,
     j: usize,
 ) -> Changes
-    requires { ⌜ (1 ≤ n) × (n ≤ size .largest) × (1 ≤ p) × (j ≤ n) × (j ≡ 0 → p ≤ n) × (rowLength n + 2 ≤ length (now list)) × (n * rowLength n ≤ length (now stretches)) × (rowLength n < length (now scratch)) ⌝ }
+    requires { ⌜ (1 ≤ n) × (n ≤ size .largest) × (1 ≤ p) × (j ≤ n) × (j ≡ 0 → p ≤ n)
+        × (rowLength n + 2 ≤ length (now list)) × (n * rowLength n ≤ length (now stretches)) × (rowLength n < length (now scratch)) ⌝ }
     ensures rows { λ r. ⌜ RowsRenewed (now (list .entry)) (now (stretches .entry)) (now (stretches .exit)) n p j ⌝ }
     ensures changes { λ r. ⌜ TotalChanged (now (list .entry)) (now (stretches .entry)) n p j r ⌝ }
     ensures longest { λ r. ⌜ LongestMade (now (list .entry)) (now (stretches .entry)) n p j r ⌝ }
