@@ -1,6 +1,6 @@
 -- What stands at each place of the largest card after one read more, and its places at every size.
 use mathlib.Core.Path.{_≡_, refl, sym, ap, _∙_}
-use mathlib.Core.Logic.{_≢_}
+use mathlib.Core.Logic.{_≢_, inl, inr}
 use mathlib.Core.List.{List, [], _∷_, _++_}
 use Prim.Native.Nat.{ℕ, zero, suc, _+_, _-_, _≤_, _<_}
 use native.Mathlib.Omega.{arith}
@@ -16,35 +16,11 @@ use Rattle.card.specs.Moves.{takenOut, putIn}
 use Rattle.sizes.specs.Moves.{otherAfter, own, sourceOf, newOf}
 use Rattle.sizes.specs.Rows.{placesAt}
 use Rattle.sizes.proofs.PairLaws.{after-absent}
+use Rattle.sizes.proofs.RowLaws.{source-above, source-below, source-down, source-up}
 use Rattle.card.proofs.StretchBounds.{places-fall}
 use Rattle.sizes.proofs.Families.{keyAt, family, placed, unplaced, key-place}
 
 -- ---- where a block comes from
-
-module _ (p j k : ℕ) where
-  miss-kept : k ≤ p → j ≡ 0 → sourceOf p j k ≡ k
-  unfolding sourceOf
-  miss-kept a b = simp tests
-
-  miss-lower : p < k → j ≡ 0 → sourceOf p j k ≡ k - 1
-  unfolding sourceOf
-  miss-lower a b = simp tests
-
-  hit-kept : k ≤ p → j ≢ 0 → k < j → sourceOf p j k ≡ k
-  unfolding sourceOf
-  hit-kept a b d = simp tests
-
-  hit-higher : k ≤ p → j ≢ 0 → j ≤ k → sourceOf p j k ≡ k + 1
-  unfolding sourceOf
-  hit-higher a b d = simp tests
-
-  hit-lower : p < k → j ≢ 0 → k - 1 < j → sourceOf p j k ≡ k - 1
-  unfolding sourceOf
-  hit-lower a b d = simp tests
-
-  hit-back : p < k → j ≢ 0 → j ≤ k - 1 → sourceOf p j k ≡ k - 1 + 1
-  unfolding sourceOf
-  hit-back a b d = simp tests
 
 module _ (p j n : ℕ) (one : 1 ≤ p) (in-card : j ≤ n) where
   -- a block that comes to place k comes from the source of k
@@ -52,43 +28,43 @@ module _ (p j n : ℕ) (one : 1 ≤ p) (in-card : j ≤ n) where
   source-to l k a b d e h =
       by-eq j 0
       (λ f. by-lt n p
-      (λ g. let i = simp tests at h in ((λ q. omega arith), omega (arith, miss-kept p j k (omega arith) f)))
+      (λ g. let i = simp tests at h in ((λ q. omega arith), omega (arith, source-above p j k (omega arith) (inl f))))
       (λ g. by-lt l p
-      (λ t. let i = simp tests at h in ((λ q. omega arith), omega (arith, miss-kept p j k (omega arith) f)))
+      (λ t. let i = simp tests at h in ((λ q. omega arith), omega (arith, source-above p j k (omega arith) (inl f))))
       (λ t. by-lt l n
-      (λ u. let i = simp tests at h in ((λ q. omega arith), omega (arith, miss-lower p j k (omega arith) f)))
+      (λ u. let i = simp tests at h in ((λ q. omega arith), omega (arith, source-down p j k (omega arith) (inl f))))
       (λ u. let i = simp tests at h in absurd (omega arith)))))
       (λ f. by-lt j l
       (λ c. by-lt n p
-      (λ g. let i = simp tests at h in ((λ q. omega arith), omega (arith, hit-higher p j k (omega arith) f (omega arith))))
+      (λ g. let i = simp tests at h in ((λ q. omega arith), omega (arith, source-up p j k (omega arith) (omega arith) (omega arith))))
       (λ g. by-lt (l - 1) p
-      (λ t. let i = simp tests at h in ((λ q. omega arith), omega (arith, hit-higher p j k (omega arith) f (omega arith))))
-      (λ t. let u : l - 1 < n = omega arith in let i = simp tests at h in ((λ q. omega arith), omega (arith, hit-back p j k (omega arith) f (omega arith))))))
+      (λ t. let i = simp tests at h in ((λ q. omega arith), omega (arith, source-up p j k (omega arith) (omega arith) (omega arith))))
+      (λ t. let u : l - 1 < n = omega arith in let i = simp tests at h in ((λ q. omega arith), omega (arith, source-below p j k (omega arith) (omega arith) (omega arith))))))
       (λ c. by-lt n p
-      (λ g. let i = simp tests at h in ((λ q. omega arith), omega (arith, hit-kept p j k (omega arith) f (omega arith))))
+      (λ g. let i = simp tests at h in ((λ q. omega arith), omega (arith, source-above p j k (omega arith) (inr (omega arith)))))
       (λ g. by-lt l p
-      (λ t. let i = simp tests at h in ((λ q. omega arith), omega (arith, hit-kept p j k (omega arith) f (omega arith))))
-      (λ t. let u : l < n = omega arith in let i = simp tests at h in ((λ q. omega arith), omega (arith, hit-lower p j k (omega arith) f (omega arith)))))))
+      (λ t. let i = simp tests at h in ((λ q. omega arith), omega (arith, source-above p j k (omega arith) (inr (omega arith)))))
+      (λ t. let u : l < n = omega arith in let i = simp tests at h in ((λ q. omega arith), omega (arith, source-down p j k (omega arith) (inr (omega arith))))))))
 
   -- and what stands at the source of k comes to k
   pub source-from : (s k : ℕ) → s ≡ sourceOf p j k → 1 ≤ k → k ≤ n → k ≢ p → 1 ≤ s → s ≤ n → (s ≢ j) × (putIn p n (takenOut j s) ≡ k)
   source-from s k w a b d e h =
       by-eq j 0
       (λ f. by-lt p k
-      (λ g. let i = w ∙ miss-lower p j k g f in
+      (λ g. let i = w ∙ source-down p j k g (inl f) in
       let x : p ≤ n = omega arith in let y : p ≤ s = omega arith in let z : s < n = omega arith in ((λ q. omega arith), simp tests (omega arith)))
-      (λ g. let i = w ∙ miss-kept p j k g f in
+      (λ g. let i = w ∙ source-above p j k g (inl f) in
       ((λ q. omega arith), by-lt n p (λ x. simp tests (omega arith)) (λ x. let y : s < p = omega arith in simp tests (omega arith)))))
       (λ f. by-lt p k
       (λ g. by-lt (k - 1) j
-      (λ c. let i = w ∙ hit-lower p j k g f c in
+      (λ c. let i = w ∙ source-down p j k g (inr (omega arith)) in
       let x : p ≤ n = omega arith in let y : p ≤ s = omega arith in let z : s < n = omega arith in let v : s ≤ j = omega arith in ((λ q. omega arith), simp tests (omega arith)))
-      (λ c. let i = w ∙ hit-back p j k g f c in
+      (λ c. let i = w ∙ source-below p j k (omega arith) (omega arith) g in
       let x : p ≤ n = omega arith in let v : j < s = omega arith in let y : p ≤ s - 1 = omega arith in let z : s - 1 < n = omega arith in ((λ q. omega arith), simp tests (omega arith))))
       (λ g. by-lt k j
-      (λ c. let i = w ∙ hit-kept p j k g f c in let v : s ≤ j = omega arith in
+      (λ c. let i = w ∙ source-above p j k g (inr c) in let v : s ≤ j = omega arith in
       ((λ q. omega arith), by-lt n p (λ x. simp tests (omega arith)) (λ x. let y : s < p = omega arith in simp tests (omega arith))))
-      (λ c. let i = w ∙ hit-higher p j k g f c in let v : j < s = omega arith in
+      (λ c. let i = w ∙ source-up p j k g (omega arith) c in let v : j < s = omega arith in
       ((λ q. omega arith), by-lt n p (λ x. simp tests (omega arith)) (λ x. let y : s - 1 < p = omega arith in simp tests (omega arith))))))
 
 -- ---- what stands there after the read

@@ -1,6 +1,6 @@
 -- Rows: where they lie, and where their lists come from.
 use mathlib.Core.Path.{_≡_, refl, sym, ap, _∙_}
-use mathlib.Core.Logic.{_⊎_, inl, inr, ⊎-elim}
+use mathlib.Core.Logic.{_⊎_, _≢_, inl, inr, ⊎-elim}
 use mathlib.Core.List.{List, []}
 use Prim.Native.Nat.{ℕ, _+_, _-_, _*_, _≤_, _<_}
 use native.Mathlib.Omega.{arith}
@@ -8,27 +8,51 @@ use native.Mathlib.Nat.{suc-mul, mul-le-mul-left, mul-le-mul-right}
 use native.Mathlib.Numerals.{add-one}
 use mathlib.Core.Bool.{true, false}
 use lib.ListN.{getD}
-use borrow.Author.Tests.{lt-ltb, le-ltb, eq-eqb, ne-eqb}
-use Rattle.card.proofs.Tests.{bit}
-use Rattle.sizes.specs.Moves.{otherAfter, own, beforePutIn, beforeTakenOut, sourceOf, newOf}
+use borrow.Author.Tests.{eq-eqb, ne-eqb}
+use Rattle.card.proofs.Tests.{by-lt, by-eq, tests, bit}
+use Rattle.sizes.specs.Moves.{otherAfter, own, sourceOf, newOf}
 use Rattle.sizes.specs.Rows.{pairs, Row}
 use Rattle.sizes.specs.Renewals.{Kept}
-use Rattle.sizes.proofs.PairLaws.{lt-cases, eq-cases, level-pairs, pairs-zero, after-absent}
+use Rattle.sizes.proofs.PairLaws.{lt-cases, level-pairs, pairs-zero, after-absent}
 
 -- A block that is nowhere has no stretch.
 pub pairs-none : (R : ℕ → ℕ) (n : ℕ) → ((m : ℕ) → R m ≡ 0) → pairs R n ≡ []
 pairs-none R n h = level-pairs R 0 n (omega arith) (λ m a b. h m ∙ sym (h 0)) ∙ pairs-zero R
 
--- The two steps back to where a block comes from are short.
-back-near : (p k : ℕ) → (k ≤ beforePutIn p k + 1) × (beforePutIn p k ≤ k)
-back-near p k = ⊎-elim (λ lt. simp (lt-ltb p k lt) (omega arith)) (λ ge. simp (le-ltb p k ge) (omega arith)) (lt-cases p k)
+-- Above and below the blocks that move, a row keeps its block; between them it comes from the next place below or above.
+module _ (p j k : ℕ) where
+  pub source-above : k ≤ p → (j ≡ 0) ⊎ (k < j) → sourceOf p j k ≡ k
+  unfolding sourceOf
+  source-above h at = by-eq j 0 (λ z. simp tests) (λ ne. let lt : k < j = ⊎-elim (λ z. absurd (ne z)) (λ lt. lt) at in simp tests)
 
-bump-near : (j x : ℕ) → (x ≤ beforeTakenOut j x) × (beforeTakenOut j x ≤ x + 1)
-bump-near j x = ⊎-elim (λ e. simp (eq-eqb j 0 e) (omega arith)) (λ ne. ⊎-elim (λ lt. simp (ne-eqb j 0 ne, lt-ltb x j lt) (omega arith)) (λ ge. simp (ne-eqb j 0 ne, le-ltb x j ge) (omega arith)) (lt-cases x j)) (eq-cases j 0)
+  pub source-below : 0 < j → j < k → p < k → sourceOf p j k ≡ k
+  unfolding sourceOf
+  source-below pos at h = let ne : j ≢ 0 = omega arith in let le : j ≤ k - 1 = omega arith in simp tests (omega arith)
 
-pub source-near : (p j k : ℕ) → (k ≤ sourceOf p j k + 1) × (sourceOf p j k ≤ k + 1)
-unfolding sourceOf
-source-near p j k = omega (arith, back-near p k, bump-near j (beforePutIn p k))
+  pub source-down : p < k → (j ≡ 0) ⊎ (k ≤ j) → sourceOf p j k ≡ k - 1
+  unfolding sourceOf
+  source-down h at = by-eq j 0 (λ z. simp tests) (λ ne. let lt : k - 1 < j = ⊎-elim (λ z. absurd (ne z)) (λ le. omega arith) at in simp tests)
+
+  pub source-up : k ≤ p → 0 < j → j ≤ k → sourceOf p j k ≡ k + 1
+  unfolding sourceOf
+  source-up h pos at = let ne : j ≢ 0 = omega arith in simp tests
+
+  -- there is no other way
+  source-by {ℓ} : {P : Type ℓ} → (sourceOf p j k ≡ k → P) → (p < k → sourceOf p j k ≡ k - 1 → P) → (sourceOf p j k ≡ k + 1 → P) → P
+  source-by kept down up =
+      by-lt p k
+      (λ h. by-lt j k
+      (λ lt. by-eq j 0 (λ z. down h (source-down h (inl z))) (λ ne. kept (source-below (omega arith) lt h)))
+      (λ le. down h (source-down h (inr le))))
+      (λ h. by-lt k j
+      (λ lt. kept (source-above h (inr lt)))
+      (λ le. by-eq j 0 (λ z. kept (source-above h (inl z))) (λ ne. up (source-up h (omega arith) le))))
+
+  pub source-near : (k ≤ sourceOf p j k + 1) × (sourceOf p j k ≤ k + 1)
+  source-near = source-by (λ e. omega arith) (λ h e. omega arith) (λ e. omega arith)
+
+  pub source-lo : 0 < p → 0 < k → 0 < sourceOf p j k
+  source-lo hp hk = source-by (λ e. omega arith) (λ h e. omega arith) (λ e. omega arith)
 
 pub new-own : (J : ℕ → ℕ) (p j : ℕ) (L : ℕ → ℕ → ℕ) (k : ℕ) → k ≡ p → newOf J p j L k ≡ own p
 unfolding newOf
@@ -75,53 +99,6 @@ base-le k y w h = omega (arith, next-base k w, mul-le-mul-right w (add-le k y h)
   where
     add-le : (k y : ℕ) → k < y → k + 1 ≤ y
     add-le k y h = omega arith
-
-back-lo : (p k : ℕ) → 0 < p → 0 < k → 0 < beforePutIn p k
-back-lo p k hp hk = ⊎-elim (λ lt. simp (lt-ltb p k lt) (omega arith)) (λ ge. simp (le-ltb p k ge) hk) (lt-cases p k)
-
-pub source-lo : (p j k : ℕ) → 0 < p → 0 < k → 0 < sourceOf p j k
-unfolding sourceOf
-source-lo p j k hp hk = omega (arith, back-lo p k hp hk, bump-near j (beforePutIn p k))
-
--- The ways of going back.
-back-cases : (p k : ℕ) → ((p < k) × (beforePutIn p k ≡ k - 1)) ⊎ ((k ≤ p) × (beforePutIn p k ≡ k))
-back-cases p k = ⊎-elim (λ h. inl (h, simp (lt-ltb p k h))) (λ h. inr (h, simp (le-ltb p k h))) (lt-cases p k)
-
-bump-cases : (j x : ℕ) → ((j ≡ 0) × (beforeTakenOut j x ≡ x)) ⊎ (((0 < j) × (x < j) × (beforeTakenOut j x ≡ x)) ⊎ ((0 < j) × (j ≤ x) × (beforeTakenOut j x ≡ x + 1)))
-bump-cases j x =
-    ⊎-elim (λ e. inl (e, simp (eq-eqb j 0 e)))
-    (λ ne. inr (⊎-elim (λ h. inl (omega arith, h, simp (ne-eqb j 0 ne, lt-ltb x j h))) (λ h. inr (omega arith, h, simp (ne-eqb j 0 ne, le-ltb x j h))) (lt-cases x j)))
-    (eq-cases j 0)
-
--- above and below the blocks that move, a row keeps its block; between them it comes from the next place below or above
-module _ (p j k : ℕ) where
-  pub source-above : k < p → (j ≡ 0) ⊎ (k < j) → sourceOf p j k ≡ k
-  unfolding sourceOf
-  source-above h at =
-      ⊎-elim (λ a. absurd (omega arith))
-      (λ a. ⊎-elim (λ b. omega arith) (⊎-elim (λ b. omega arith) (λ b. absurd (⊎-elim (λ z. omega arith) (λ z. omega arith) at))) (bump-cases j (beforePutIn p k)))
-      (back-cases p k)
-
-  pub source-below : 0 < j → j < k → p < k → sourceOf p j k ≡ k
-  unfolding sourceOf
-  source-below pos at h =
-      ⊎-elim (λ a. ⊎-elim (λ b. omega arith) (⊎-elim (λ b. omega arith) (λ b. omega arith)) (bump-cases j (beforePutIn p k)))
-      (λ a. absurd (omega arith))
-      (back-cases p k)
-
-  pub source-down : p < k → (j ≡ 0) ⊎ (k ≤ j) → sourceOf p j k ≡ k - 1
-  unfolding sourceOf
-  source-down h at =
-      ⊎-elim (λ a. ⊎-elim (λ b. omega arith) (⊎-elim (λ b. omega arith) (λ b. absurd (⊎-elim (λ z. omega arith) (λ z. omega arith) at))) (bump-cases j (beforePutIn p k)))
-      (λ a. absurd (omega arith))
-      (back-cases p k)
-
-  pub source-up : k < p → 0 < j → j ≤ k → sourceOf p j k ≡ k + 1
-  unfolding sourceOf
-  source-up h pos at =
-      ⊎-elim (λ a. absurd (omega arith))
-      (λ a. ⊎-elim (λ b. omega arith) (⊎-elim (λ b. omega arith) (λ b. omega arith)) (bump-cases j (beforePutIn p k)))
-      (back-cases p k)
 
 -- A block that is nowhere stays so.
 pub after-none : (J : ℕ → ℕ) (p : ℕ) (L : ℕ → ℕ) → 0 < p → ((m : ℕ) → L m ≡ 0) → (m : ℕ) → otherAfter J p L m ≡ 0

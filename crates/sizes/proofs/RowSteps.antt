@@ -137,7 +137,7 @@ pub emptied-row : (read : RowRead) (J : ℕ → ℕ) (L : ℕ → ℕ → ℕ) (
 emptied-row read J L changes area last fits past present within fam kept zeros =
     let none = fam .past in
     let gone = after-none J (read .p) (L (read .n + 1)) (fits .read-at) none in
-    carried-row read (λ e. omega arith) (sym (source-up (read .p) (read .j) (read .n) past present within)) J L changes area last kept
+    carried-row read (λ e. omega arith) (sym (source-up (read .p) (read .j) (read .n) (omega arith) present within)) J L changes area last kept
     (λ q h. zeros q h ∙ sym (ap (λ (l : List ℕ). getD l q 0) (pairs-none (otherAfter J (read .p) (L (read .n + 1))) (read .n) gone)))
     (stretches-nowhere (otherAfter J (read .p) (L (read .n + 1))) (read .n) gone ∙ sym (stretches-nowhere (L (read .n + 1)) (read .n) none))
 

@@ -1,9 +1,9 @@
 -- A list of stretches, stretch by stretch: which has begun at a size, and which place it gives.
-use mathlib.Core.Path.{_≡_, refl, sym, ap, _∙_}
+use mathlib.Core.Path.{_≡_, sym, ap, _∙_}
 use mathlib.Core.List.{List, [], _∷_, _++_, append-nil}
 use Prim.Native.Nat.{ℕ, zero, suc, _+_, _*_, _≤_, _<_}
 use native.Mathlib.Omega.{arith}
-use lib.ListN.{getD, List·getD-append, List·getD-eq-default}
+use lib.ListN.{getD, List·getD-eq-default}
 use lib.Seq.{getD-append-add}
 use Rattle.card.specs.Stretches.{stretches}
 use Rattle.card.proofs.Tests.{by-lt, by-eq, tests}
@@ -11,6 +11,7 @@ use Rattle.sizes.specs.Rows.{pairs}
 use Rattle.card.specs.Falling.{Falling}
 use Rattle.sizes.specs.Lists.{Holds}
 use Rattle.sizes.specs.TallySteps.{Passed, PresentFrom}
+use Rattle.sizes.proofs.PairLaws.{len-le, prefix}
 use Rattle.sizes.proofs.PairFacts.{length-pairs}
 
 module _ (J : ℕ → ℕ) where
@@ -35,11 +36,7 @@ module _ (J : ℕ → ℕ) where
       (λ e. new record { list = simp tests; number = simp tests (omega arith); some = omega arith }))
 
   stretches-rise : (m n : ℕ) → m ≤ n → stretches J m ≤ stretches J n
-  stretches-rise m zero h = let e : m ≡ 0 = omega arith in rw e (omega arith)
-  stretches-rise m (suc n) h =
-      by-eq m (suc n)
-      (λ e. rw e (omega arith))
-      (λ d. omega (arith, stretches-rise m n (omega arith)))
+  stretches-rise m n h = omega (arith, len-le J m n h, length-pairs J m, length-pairs J n)
 
   -- past the last stretch are zeros
   pairs-end : (n q : ℕ) → 2 * stretches J n ≤ q → getD (pairs J n) q 0 ≡ 0
@@ -47,10 +44,7 @@ module _ (J : ℕ → ℕ) where
 
   -- one size more leaves what there is
   pairs-more : (n q : ℕ) → q < 2 * stretches J n → getD (pairs J (suc n)) q 0 ≡ getD (pairs J n) q 0
-  pairs-more n q h =
-      by-start n
-      (λ s. rw (s .list))
-      (λ s. rw (s .list) (List·getD-append (pairs J n) (suc n ∷ J (suc n) ∷ []) 0 q (omega (arith, length-pairs J n))))
+  pairs-more n q h = prefix J n (suc n) q (omega arith) (omega (arith, length-pairs J n))
 
   pairs-new : (n q : ℕ) → New n → getD (pairs J (suc n)) (2 * stretches J n + q) 0 ≡ getD (suc n ∷ J (suc n) ∷ []) q 0
   pairs-new n q s =

@@ -49,7 +49,7 @@ module _ (read : RowRead) (k : ℕ) where
   }
 
   pub way-above : 0 < k → k ≤ read .n → k < read .p → (read .j ≡ 0) ⊎ (k < read .j) → Way read k k ((k - 1) * read .width) ((k - 1) * read .width)
-  way-above some le kp side = way-still some le (λ e. omega arith) (source-above (read .p) (read .j) k kp side)
+  way-above some le kp side = way-still some le (λ e. omega arith) (source-above (read .p) (read .j) k (omega arith) side)
 
   pub way-below : 0 < read .j → read .j < k → k ≤ read .n → read .p < k → Way read k k ((k - 1) * read .width) ((k - 1) * read .width)
   way-below present jk le pk = way-still (omega arith) le (λ e. omega arith) (source-below (read .p) (read .j) k present jk pk)
@@ -74,7 +74,7 @@ module _ (read : RowRead) (k : ℕ) where
     to-low = omega arith;
     to-within = omega arith;
     other = λ e. omega arith;
-    source = sym (source-up (read .p) (read .j) k kp present jk);
+    source = sym (source-up (read .p) (read .j) k (omega arith) present jk);
     from-is = let e : k ≡ k + 1 - 1 = omega arith in ap (λ (z : ℕ). z * read .width) e;
     at-is = omega (arith, before-base k (read .width) (omega arith));
   }
