@@ -46,7 +46,7 @@ pub enum Counted {
 }
 
 // Adds an outcome to the counts; what lies past the six is kept.
-pub fn count(outcome: u32, counts: &mut [u64]) -> Counted
+pub fn add_outcome(outcome: u32, counts: &mut [u64]) -> Counted
     ensures { λ r. ⌜ (countedAnswer r ≡ countingOf outcome (now (counts .entry))) × (now (counts .exit) ≡ countsAfter outcome (now (counts .entry))) ⌝ }
 {
     if counts.len() < OUTCOMES {

@@ -100,7 +100,7 @@ pub extern "C" fn supharoek_count(outcome: u32, counts: &mut [u64], out: &mut [u
     ensures told { λ r. ⌜ Tells (countTold (countingOf outcome (now (counts .entry)))) r (now (out .entry)) (now (out .exit)) ⌝ }
     ensures counts { λ r. ⌜ now (counts .exit) ≡ countsAfter outcome (now (counts .entry)) ⌝ }
 {
-    match card::counts::count(outcome, counts) {
+    match card::counts::add_outcome(outcome, counts) {
         Counted::Added(n) => {
             tell_one(out, n);
             0

@@ -9,12 +9,12 @@ use Rattle.supharoek.proofs.steps.supharoek_count.Tie as tie
 
 returns : tie.Need-returns
 returns c =
-    let said = c .before .before .before .before .before .before .before .before .before .count .ensures in
+    let said = c .before .before .before .before .before .before .before .before .before .add-outcome .ensures in
     (told-case countedAnswer countTold (c .before .before .before .before .before .before .before .before .before .before .before .before .before .args .out .now) _ _ _ (said .0) _ (c .before .before .before .before .before .n .given .1) _ _ _ refl refl (c .before .before .tell-one .ensures), said .1)
 
 returns-2 : tie.Need-returns-2
 returns-2 c =
-    let said = c .before .before .before .before .before .before .before .before .before .before .count .ensures in
+    let said = c .before .before .before .before .before .before .before .before .before .before .add-outcome .ensures in
     (told-case countedAnswer countTold (c .before .before .before .before .before .before .before .before .before .before .before .before .before .before .args .out .now) _ _ _ (said .0) _ (c .before .before .before .before .before .before .why .given .1) _ _ _ refl (c .refusal-number .ensures) (c .before .before .before .tell-one2 .ensures), said .1)
 
 pub supharoek-count-spec : {M : Type 1} → statement M

@@ -1,8 +1,8 @@
--- `card::counts::count` meets its contract: each way out is a case of what counting answers and leaves. Assumes nothing.
+-- `card::counts::add_outcome` meets its contract: each way out is a case of what counting answers and leaves. Assumes nothing.
 use borrow.Author.Needs.{needs}
 use Rattle.card.proofs.CountCases.{few-counts, slotless, full, one-more}
-use Rattle.card.proofs.counts.count.Statement.{statement}
-use Rattle.card.proofs.counts.count.Tie as tie
+use Rattle.card.proofs.counts.add_outcome.Statement.{statement}
+use Rattle.card.proofs.counts.add_outcome.Tie as tie
 
 returns : tie.Need-returns
 returns c = few-counts _ _ (c .if1 .taken)
@@ -16,8 +16,8 @@ returns-3 c = full _ _ (c .before .before .before .before .if1 .left) _ (c .befo
 returns-4 : tie.Need-returns-4
 returns-4 c = one-more _ _ (c .before .before .before .before .if1 .left) _ (c .before .before .before .slot-of .ensures) (c .before .before .if2 .left) (c .if3 .left)
 
-pub count-spec : {M : Type 1} → statement M
-count-spec =
+pub add-outcome-spec : {M : Type 1} → statement M
+add-outcome-spec =
     tie.close
     (tie.spec
     returns
