@@ -13,7 +13,7 @@ use Rattle.trace.specs.Answers.{recordAnswer}
 use Rattle.trace.specs.Number.{Numeral, Value, Fault, numberAt}
 use Rattle.terms.specs.Reads.{Read}
 use Rattle.trace.specs.Reading.{Reading, Given, Refused, tested, field, headerAt, recordAt, restStart}
-use Rattle.trace.proofs.Numbers.{Holds}
+use Rattle.trace.proofs.Numbers.{OfValue}
 use Rattle.trace.proofs.Fields.{NumberIn, number-in}
 
 module _ {A : Type 0} where
@@ -30,7 +30,7 @@ module _ {A : Type 0} where
       → ((v end : ℕ) → at < end → end ≤ length s → Within from (length s) (next v end)) → Within from (length s) (field range s at next)
   within-field range s from at next h g f = go (numberAt s at) (number-in s at)
     where
-      go : (r : Numeral) → Holds (NumberIn s at) r → Within from (length s) (tested range at r next)
+      go : (r : Numeral) → OfValue (NumberIn s at) r → Within from (length s) (tested range at r next)
       go (Value v n) b = within-cond from (length s) (inRange range v) (next v (at + n)) _ (f v (at + n) (omega arith) (omega arith)) (h, g)
       go (Fault number) b = (h, g)
 

@@ -15,16 +15,16 @@ use Rattle.trace.specs.Number.{Value, numberAt, topByte, bytesBefore, fa
 use Rattle.trace.specs.Reading.{Reading, Refused, field}
 use Rattle.trace.specs.Answers.{numberAnswer}
 use Rattle.trace.specs.Bounds.{numberLimit}
-use Rattle.trace.proofs.Numbers.{Holds, Bounded, numeral-bounded}
+use Rattle.trace.proofs.Numbers.{OfValue, Bounded, numeral-bounded}
 
 -- a number that was read at a place ends within the bytes
 abbrev pub NumberIn : List ℕ → ℕ → ℕ → ℕ → Type 0
 NumberIn s at v n = Bounded numberLimit (suc bytesBefore) (length s - at) v n
 
-pub number-in : (s : List ℕ) (at : ℕ) → Holds (NumberIn s at) (numberAt s at)
+pub number-in : (s : List ℕ) (at : ℕ) → OfValue (NumberIn s at) (numberAt s at)
 unfolding numberLimit
 number-in s at =
-    subst (λ (room : ℕ). Holds (Bounded numberLimit (suc bytesBefore) room) (numberAt s at)) (length-drop at s) (numeral-bounded topByte bytesBefore (drop at s))
+    subst (λ (room : ℕ). OfValue (Bounded numberLimit (suc bytesBefore) room) (numberAt s at)) (length-drop at s) (numeral-bounded topByte bytesBefore (drop at s))
 
 -- every number is a block
 pub block-any : (v : ℕ) → v < numberLimit → inRange block v ≡ true
@@ -32,7 +32,7 @@ unfolding block numberLimit
 block-any v h = rw (le-leb 0 v (omega arith), le-leb v 4294967295 (omega arith))
 
 pub bounded : (s : List ℕ) (at : ℕ) (a : Number) → numberAnswer a ≡ numberAt s at → (v n : ℕ) → a ≡ the-number.Value v n → NumberIn s at v n
-bounded s at a e v n g = subst (Holds (NumberIn s at)) (sym e ∙ ap numberAnswer g) (number-in s at)
+bounded s at a e v n g = subst (OfValue (NumberIn s at)) (sym e ∙ ap numberAnswer g) (number-in s at)
 
 -- ---- the ways out of a field, from the answer of the number reader
 

@@ -46,16 +46,16 @@ after-value byte (suc v) n h = refl
 -- ---- what holds of each number that is read
 
 -- it holds of a value and its length, if these are what was read
-abbrev pub Holds : (ℕ → ℕ → Type 0) → Numeral → Type 0
-Holds P (Value v n) = P v n
-Holds P (Fault number) = Unit
+abbrev pub OfValue : (ℕ → ℕ → Type 0) → Numeral → Type 0
+OfValue P (Value v n) = P v n
+OfValue P (Fault number) = Unit
 
-pub holds-cond : (P : ℕ → ℕ → Type 0) (t : Bool) (x y : Numeral) → (t ≡ true → Holds P x) → (t ≡ false → Holds P y) → Holds P (cond t x y)
+pub holds-cond : (P : ℕ → ℕ → Type 0) (t : Bool) (x y : Numeral) → (t ≡ true → OfValue P x) → (t ≡ false → OfValue P y) → OfValue P (cond t x y)
 holds-cond P true x y f g = f refl
 holds-cond P false x y f g = g refl
 
 pub holds-after : (P Q : ℕ → ℕ → Type 0) (byte : ℕ) (r : Numeral)
-    → ((v n : ℕ) → 1 ≤ v → P v n → Q (byte % 128 + 128 * v) (n + 1)) → Holds P r → Holds Q (after byte r)
+    → ((v n : ℕ) → 1 ≤ v → P v n → Q (byte % 128 + 128 * v) (n + 1)) → OfValue P r → OfValue Q (after byte r)
 holds-after P Q byte (Value zero n) f h = tt
 holds-after P Q byte (Value (suc v) n) f h = f (suc v) n (omega arith) h
 holds-after P Q byte (Fault number) f h = tt
@@ -76,7 +76,7 @@ limit-mono top (suc left) (suc more) h = let ih = limit-mono top left more (omeg
 abbrev pub Bounded : (limited most room : ℕ) → ℕ → ℕ → Type 0
 Bounded limited most room v n = (v < limited) × (1 ≤ n) × (n ≤ most) × (n ≤ room)
 
-pub numeral-bounded : (top left : ℕ) (s : List ℕ) → Holds (Bounded (limit top left) (suc left) (length s)) (numeral top left s)
+pub numeral-bounded : (top left : ℕ) (s : List ℕ) → OfValue (Bounded (limit top left) (suc left) (length s)) (numeral top left s)
 unfolding numeral
 numeral-bounded top zero [] = tt
 numeral-bounded top zero (byte ∷ s) =
@@ -89,7 +89,7 @@ numeral-bounded top (suc left) (byte ∷ s) =
     (λ e. omega (arith, ltb-true byte 128 e, limit-pos top left))
     (λ e. holds-after (Bounded (limit top left) (suc left) (length s)) (Bounded (limit top (suc left)) (suc (suc left)) (suc (length s))) byte (numeral top left s) (λ v n one h. omega arith) (numeral-bounded top left s))
 
-small-of : (limited most room : ℕ) (r : Numeral) → limited ≤ 2 ^ 56 → most < 2 ^ 32 → Holds (Bounded limited most room) r → Small r
+small-of : (limited most room : ℕ) (r : Numeral) → limited ≤ 2 ^ 56 → most < 2 ^ 32 → OfValue (Bounded limited most room) r → Small r
 small-of limited most room (Value v n) p q h = omega arith
 small-of limited most room (Fault number) p q h = tt
 

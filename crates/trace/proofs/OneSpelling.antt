@@ -17,7 +17,7 @@ use Rattle.trace.specs.Reading.{Reading, Given, Refused, tested, field, 
 use Rattle.trace.specs.Spelling.{spell, spelling, spellings, headerValues, readValues, Bytes}
 use Rattle.terms.specs.declared.Refusal.the-variants.{Form}
 use Rattle.terms.specs.Refusals.{numberOf}
-use Rattle.trace.proofs.Numbers.{Holds, holds-cond, holds-after}
+use Rattle.trace.proofs.Numbers.{OfValue, holds-cond, holds-after}
 use Rattle.trace.proofs.Fields.{NumberIn, number-in}
 use Rattle.trace.proofs.Spellings.{spell-low, length-cons}
 
@@ -38,7 +38,7 @@ spelled-after left byte s v n low high one h =
     same-rest : v ≡ (byte % 128 + 128 * v) / 128
     same-rest = omega arith
 
-pub numeral-spelled : (top left : ℕ) (s : List ℕ) → Bytes s → Holds (SpelledAs left s) (numeral top left s)
+pub numeral-spelled : (top left : ℕ) (s : List ℕ) → Bytes s → OfValue (SpelledAs left s) (numeral top left s)
 unfolding numeral spell
 numeral-spelled top zero [] y = tt
 numeral-spelled top zero (byte ∷ s) y =
@@ -57,7 +57,7 @@ long-after left byte v n one h =
     rest : (byte % 128 + 128 * v) / 128 ≡ v
     rest = omega arith
 
-numeral-long : (top left : ℕ) (s : List ℕ) → Holds (λ v n. length (spell left v) ≡ n) (numeral top left s)
+numeral-long : (top left : ℕ) (s : List ℕ) → OfValue (λ v n. length (spell left v) ≡ n) (numeral top left s)
 unfolding numeral spell
 numeral-long top zero [] = tt
 numeral-long top zero (byte ∷ s) =
@@ -70,7 +70,7 @@ numeral-long top (suc left) (byte ∷ s) =
 
 -- a number that was read is as long as its spelling, whatever stands there
 pub number-long : (s : List ℕ) (at v n : ℕ) → numberAt s at ≡ Value v n → length (spelling v) ≡ n
-number-long s at v n e = subst (Holds (λ w m. length (spelling w) ≡ m)) e (numeral-long topByte bytesBefore (drop at s))
+number-long s at v n e = subst (OfValue (λ w m. length (spelling w) ≡ m)) e (numeral-long topByte bytesBefore (drop at s))
 
 -- ---- values one after the other
 
@@ -88,8 +88,8 @@ module _ (s : List ℕ) (y : Bytes s) (at : ℕ) where
   -- the bytes of an accepted number are its spelling
   pub number-spelled : (v n : ℕ) → numberAt s at ≡ Value v n → (take n (drop at s) ≡ spelling v) × (n ≤ length s - at)
   number-spelled v n e = (
-    subst (Holds (SpelledAs bytesBefore (drop at s))) e (numeral-spelled topByte bytesBefore (drop at s) (bytes-drop s at y)),
-    subst (Holds (NumberIn s at)) e (number-in s at) .3,
+    subst (OfValue (SpelledAs bytesBefore (drop at s))) e (numeral-spelled topByte bytesBefore (drop at s) (bytes-drop s at y)),
+    subst (OfValue (NumberIn s at)) e (number-in s at) .3,
   )
 
   pub spells-more : (v n end : ℕ) (vs : List ℕ) → numberAt s at ≡ Value v n → Spells s (at + n) end vs → Spells s at end (v ∷ vs)
