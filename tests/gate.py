@@ -1,5 +1,5 @@
-"""The gate itself, and that everything it goes by is there: programs for stored outputs, a part for every test, and a
-row of docs/PROVED.md for every version that has to be refused.
+"""The gate itself, and that everything it goes by is there: programs for stored outputs, a part for every test, a row
+of docs/PROVED.md for every version that has to be refused, and what that page names.
 
     python3 tests/gate.py [GATE]
 
@@ -94,6 +94,15 @@ def check_versions(tally):
     tally.equal('the table of refused versions', sorted((path, words) for words, path in rows), sorted(edits.items()))
 
 
+def check_theorems(tally):
+    """What docs/PROVED.md names is there: each theorem in the proofs of some crate, and each file."""
+    text = (kit.ROOT / 'docs' / 'PROVED.md').read_text()
+    proofs = '\n'.join(path.read_text() for path in kit.ROOT.glob('crates/*/proofs/*.antt'))
+    theorems = set(re.findall(r'`([a-z]\w*(?:-\w+)+)`', text)) - set(re.findall(r'^ *pub (\S+) :', proofs, re.MULTILINE))
+    files = {path for path in re.findall(r'`((?:crates|tests)/[^`]*)`', text) if not (kit.ROOT / path).exists()}
+    tally.equal('theorems and files that are named and not there', (theorems, files), (set(), set()))
+
+
 class Gate:
     """A copy of the gate in a folder where `rt` and the tests end as they are told."""
 
@@ -153,6 +162,7 @@ def main(gate=kit.ROOT / '.ci' / 'run'):
     tally, gate = compare.Tally(), pathlib.Path(gate)
     check_parts(tally, gate)
     check_versions(tally)
+    check_theorems(tally)
     with tempfile.TemporaryDirectory() as name:
         check_stored(tally, pathlib.Path(name))
         check_gate(tally, pathlib.Path(name), gate)
