@@ -8,7 +8,6 @@ use Rattle.terms.proofs.Refusals.{one-refusal}
 use Rattle.terms.proofs.Determined.{one-value}
 use Rattle.card.specs.declared.counts.Counted.{Counted}
 use Rattle.card.specs.declared.counts.Counted.the-variants as the-counted
-use Rattle.card.specs.declared.places.Found.{Found}
 use Rattle.card.specs.declared.step.Answer.{Answer}
 use Rattle.card.specs.declared.step.Answer.the-variants as the-answer
 use Rattle.card.specs.declared.step.Card.{Card}
@@ -29,9 +28,6 @@ one-answer (the-answer.Refused r) (the-answer.Refused s) e = ap the-answer.Refus
 
 cardOf : ℕ → List ℕ → Card
 cardOf m places = record { size = m; places = places }
-
-foundOf : ℕ → ℕ → Found
-foundOf j o = record { place = j; outcome = o }
 
 steppedOf : Answer → Card → Stepped
 steppedOf a c = record { answer = a; card = c }
@@ -63,13 +59,11 @@ key-determined v b x y e f = one-value e f
 pub place-determined : (c : List ℕ) (key x y : ℕ) → x ≡ place c key → y ≡ place c key → x ≡ y
 place-determined c key x y e f = one-value e f
 
--- one read on a card: the place found, the outcome and the card after it
-pub read-determined : (c : List ℕ) (key p : ℕ) (x y : Found) (d d′ : List ℕ)
-    → (x .place ≡ place c key) × (x .outcome ≡ outcomeOn c key (max 1 p)) × (d ≡ afterRead c key (max 1 p))
-    → (y .place ≡ place c key) × (y .outcome ≡ outcomeOn c key (max 1 p)) × (d′ ≡ afterRead c key (max 1 p))
+-- one read on a card: the outcome and the card after it
+pub read-determined : (c : List ℕ) (key p x y : ℕ) (d d′ : List ℕ)
+    → (x ≡ outcomeOn c key (max 1 p)) × (d ≡ afterRead c key (max 1 p)) → (y ≡ outcomeOn c key (max 1 p)) × (d′ ≡ afterRead c key (max 1 p))
     → (x ≡ y) × (d ≡ d′)
-unfolding foundOf
-read-determined c key p x y d d′ e f = (ap₂ foundOf (one-value (e .0) (f .0)) (one-value (e .1) (f .1)), one-value (e .2) (f .2))
+read-determined c key p x y d d′ e f = (one-value (e .0) (f .0), one-value (e .1) (f .1))
 
 -- its second half: the card after it
 pub moved-determined : (c : List ℕ) (key j p : ℕ) (d d′ : List ℕ) → d ≡ movedFrom c key j (max 1 p) → d′ ≡ movedFrom c key j (max 1 p) → d ≡ d′

@@ -102,10 +102,10 @@ moved-read c x j p e =
     let h : place c x ≤ length c = place-in c x in
     ap (λ (k : ℕ). movedFrom c x k p) e ∙ simp tests refl
 
--- a read is its place, its outcome and its move
+-- so it is a search and a move
 pub read-is : (c last : List ℕ) (x p q j n : ℕ) → q ≡ p → j ≡ place c x → n ≡ outcome (length c) j q → last ≡ movedFrom c x j p
-    → (j ≡ place c x) × (n ≡ outcomeOn c x p) × (last ≡ afterRead c x p)
-read-is c last x p q j n f e g h = (e, g ∙ ap₂ (outcome (length c)) e f, h ∙ moved-read c x j p e)
+    → (n ≡ outcomeOn c x p) × (last ≡ afterRead c x p)
+read-is c last x p q j n f e g h = (g ∙ ap₂ (outcome (length c)) e f, h ∙ moved-read c x j p e)
 
 -- a read that is in no card and is put in none leaves it
 pub read-past : (c : List ℕ) (x p : ℕ) → place c x ≡ 0 → length c < p → c ≡ afterRead c x p

@@ -145,23 +145,13 @@ pub fn move_from(card: &mut [u64], key: u64, j: usize, priority: usize)
     shift(card, number, j, p, key);
 }
 
-// What a read found and did: the place of the block before it, 0 where it was not there, and the outcome's number.
-pub struct Found {
-    pub place: usize,
-    pub outcome: u32,
-}
-
-// One read on a card of any size.
-pub fn read(card: &mut [u64], key: u64, priority: usize) -> Found
-    ensures { λ r. ⌜ (r .place ≡ place (now (card .entry)) key) × (r .outcome ≡ outcomeOn (now (card .entry)) key (max 1 priority))
-        × (now (card .exit) ≡ afterRead (now (card .entry)) key (max 1 priority)) ⌝ }
+// One read on a card of any size: the number of its outcome.
+pub fn read(card: &mut [u64], key: u64, priority: usize) -> u32
+    ensures { λ r. ⌜ (r ≡ outcomeOn (now (card .entry)) key (max 1 priority)) × (now (card .exit) ≡ afterRead (now (card .entry)) key (max 1 priority)) ⌝ }
 {
     let p = at_least_one(priority);
     let j = place_of(card, key);
     let number = outcome_of(card.len(), j, p);
     move_from(card, key, j, priority);
-    Found {
-        place: j,
-        outcome: number,
-    }
+    number
 }

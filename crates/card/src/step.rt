@@ -34,7 +34,7 @@ fn read_first(places: &mut [u64], m: usize, key: u64, priority: usize) -> u32
     ensures { λ r. ⌜ (r ≡ outcomeOn (take m (now (places .entry))) key (max 1 priority))
         × (now (places .exit) ≡ afterRead (take m (now (places .entry))) key (max 1 priority) ++ drop m (now (places .entry))) ⌝ }
 {
-    read(&mut places[..m], key, priority).outcome
+    read(&mut places[..m], key, priority)
 }
 
 fn read_front(places: &mut [u64; LARGEST_SIZE], m: usize, key: u64, priority: usize) -> u32

@@ -9,7 +9,7 @@ use Rattle.card.proofs.step.read_first.Statement.{statement}
 use Rattle.card.proofs.step.read_first.Tie as tie
 
 returns : tie.Need-returns
-returns c = (c .before .before .read .ensures .1, ap (λ (l : List ℕ). l ++ drop (c .before .before .before .before .before .args .m) (c .before .before .before .before .before .args .places .now)) (c .before .before .read .ensures .2))
+returns c = (c .before .before .read .ensures .0, ap (λ (l : List ℕ). l ++ drop (c .before .before .before .before .before .args .m) (c .before .before .before .before .before .args .places .now)) (c .before .before .read .ensures .1))
 
 pub read-first-spec : {M : Type 1} → statement M
 read-first-spec =
