@@ -63,8 +63,11 @@ fn read_input(input: &mut [u8]) -> Taken
     }
 }
 
-// Writes the sheet; the file behind standard output may tell of a lost write only when it is closed.
-fn write_sheet(sheet: &[u8]) {
+// Writes the sheet of an input, which is what its bytes have to be. The file behind standard output may tell of a lost write
+// only when it is closed.
+fn write_sheet(input: &[u8], sheet: &[u8])
+    requires { ⌜ now sheet ≡ printedOf (now input) ⌝ }
+{
     if !io::write_all(STDOUT_FILENO, sheet) || libc::close(STDOUT_FILENO) < 0 {
         os::fail(b"sheet: standard output");
     }
@@ -84,7 +87,7 @@ fn sheet_of(input: &[u8], text: &mut [u8]) -> usize
 fn print_sheet(input: &[u8]) {
     let mut text = [0u8; LONGEST_SHEET];
     let written = sheet_of(input, &mut text);
-    write_sheet(&text[..written]);
+    write_sheet(input, &text[..written]);
 }
 
 fn main() {

@@ -4,7 +4,8 @@ use mathlib.Core.Bool.{true, cond}
 use mathlib.Core.List.{List, _++_}
 use Prim.Native.Nat.{ℕ, zero, suc, _+_, _*_, _≤_, _<_}
 use native.Mathlib.Omega.{arith}
-use lib.ListN.{length, drop, List·getD-append}
+use lib.ListN.{length, take, drop, List·getD-append}
+use lib.Seq.{take-all, take-at}
 use borrow.Author.Tests.{le-leb}
 use Rattle.terms.specs.declared.Refusal.the-variants.{Large}
 use Rattle.terms.specs.Refusals.{numberOf}
@@ -20,7 +21,7 @@ use Rattle.sizes.specs.Answers.{areasOf, AreasAre}
 use Rattle.sizes.proofs.RanOutcomes.{counts-length}
 use Rattle.sizes.proofs.RanFacts.{Accepted, done-accepted, accepted-done, count-at, areas-determined}
 use Rattle.sizes.proofs.RoomFacts.{room-less, answer-by-trace}
-use Rattle.sheet_text.specs.Sheet.{heading, cell, sixOf, lineOf, linesOf, refusedLine, sheetOf, shown}
+use Rattle.sheet_text.specs.Sheet.{heading, cell, sixOf, lineOf, linesOf, refusedLine, sheetOf, shown, Shows}
 use Rattle.sheet_text.specs.Desk.{largestInput, isLarge, deskSheetOf, areasAfter, printedBy, printedOf}
 use Rattle.sheet_text.proofs.Bounds.{size-within, trace-size}
 
@@ -93,6 +94,12 @@ module _ (s blocks stretches counts : List ℕ) (h : size .largest ≤ length bl
       → (r ≡ length (deskSheetOf s (areasOf blocks stretches counts))) × (after ≡ shown (deskSheetOf s (areasOf blocks stretches counts)) before)
       → (r ≡ length (printedOf s)) × (after ≡ shown (printedOf s) before)
   text-printed before e = rw desk-printed at e
+
+-- bytes that a text has room for stand there whole
+pub shows-whole : (bytes before : List ℕ) {r : ℕ} {after : List ℕ} → Shows bytes r before after → r ≤ length before → take r after ≡ bytes
+shows-whole bytes before e h =
+    let fits : length bytes ≤ length before = omega (arith, e .0) in
+    rw (e .0, e .1, take-all (length before) bytes fits) (take-at bytes (drop (length bytes) before) (length bytes) refl)
 
 -- ---- one outcome
 
