@@ -12,8 +12,8 @@ use Rattle.card.specs.Moves.{takenOut, putIn}
 use Rattle.card.specs.State.{every, apart}
 use Rattle.terms.proofs.Ranges.{and-both}
 use Rattle.card.proofs.Tests.{by-lt, by-eq, tests, both-and}
-use Rattle.card.proofs.Shifts.{out, put, out-lo, put-lo, put-hi, out-le}
-use Rattle.card.proofs.Moves.{depth-absent, depth, without, insertAt, moved, Apart, depth-le, depth-moved, depth-moved-same, depth-moved-absent, place-depth, place-there, place-absent, length-moved, apart-moved}
+use Rattle.card.proofs.TwoMoves.Shifts.{out, put, out-lo, put-lo, put-hi, out-le}
+use Rattle.card.proofs.TwoMoves.Moves.{depth-absent, depth, without, insertAt, moved, Apart, depth-le, depth-moved, depth-moved-same, depth-moved-absent, place-depth, place-there, place-absent, length-moved, apart-moved}
 use Rattle.card.proofs.TwoMoves.{two-moves}
 
 -- a card keeps its length

@@ -6,8 +6,8 @@ use Prim.Native.Nat.{ℕ, suc, _%_, max}
 use Rattle.terms.specs.Ranges.{volume, block}
 use Rattle.terms.proofs.Refusals.{one-refusal}
 use Rattle.terms.proofs.Determined.{one-value}
-use Rattle.card.specs.declared.counts.Counted.{Counted}
-use Rattle.card.specs.declared.counts.Counted.the-variants as the-counted
+use Rattle.card.specs.declared.counting.Counted.{Counted}
+use Rattle.card.specs.declared.counting.Counted.the-variants as the-counted
 use Rattle.card.specs.declared.step.Answer.{Answer}
 use Rattle.card.specs.declared.step.Answer.the-variants as the-answer
 use Rattle.card.specs.declared.step.Card.{Card}

@@ -9,15 +9,16 @@ use borrow.Author.Tests.{ne-eqb}
 use lib.ListN.{length, getD, take, length-take}
 use Rattle.terms.specs.Reads.{Read}
 use Rattle.card.specs.Rule.{place, outcomeOn, afterRead}
-use Rattle.card.specs.Run.{blockRead, wanted, empty, next, run, cardAfter, outcomes, occurrences, count}
+use Rattle.card.specs.Run.{blockRead, asked, empty, next, run, cardAfter, outcomes, occurrences, count}
 use Rattle.card.specs.Stretches.{sumOver}
 use Rattle.card.proofs.Tests.{by-eq, tests, here, some-here}
 use Rattle.card.proofs.OutcomeCases.{by-outcome, place-in}
-use Rattle.card.proofs.Shifts.{out-hi}
-use Rattle.card.proofs.Moves.{depth, without, insertAt, moved, length-without, depth-there, depth-absent}
-use Rattle.card.proofs.Forms.{hit-in, hit-by, miss-in, miss-by}
+use Rattle.card.proofs.TwoMoves.Shifts.{out-hi}
+use Rattle.card.proofs.TwoMoves.Moves.{depth, without, insertAt, moved, length-without, depth-there, depth-absent}
+use Rattle.card.proofs.TwoMoves.Forms.{hit-in, hit-by, miss-in, miss-by}
 use Rattle.card.proofs.TwoMoves.{two-moves}
-use Rattle.card.proofs.Inclusion.{key-some, wanted-some}
+use Rattle.card.proofs.Asked.{asked-some}
+use Rattle.card.proofs.Inclusion.{key-some}
 use Rattle.card.proofs.Outcomes.{same}
 
 -- the full places of a card
@@ -94,11 +95,11 @@ full-after c x p z h =
 -- the forced evictions of reads
 abbrev pub evictions : List ℕ → List Read → ℕ
 evictions c [] = 0
-evictions c (r ∷ rs) = forced c (blockRead r) (wanted r) + evictions (next c r) rs
+evictions c (r ∷ rs) = forced c (blockRead r) (asked (length c) r) + evictions (next c r) rs
 
 full-run : (rs : List Read) (c : List ℕ) → full (run c rs) + evictions c rs + occurrences 3 (outcomes c rs) ≡ full c + occurrences 4 (outcomes c rs)
 full-run [] c = omega arith
-full-run (r ∷ rs) c = omega (arith, full-run rs (next c r), full-after c (blockRead r) (wanted r) (key-some r) (wanted-some r))
+full-run (r ∷ rs) c = omega (arith, full-run rs (next c r), full-after c (blockRead r) (asked (length c) r) (key-some r) (asked-some (length c) r))
 
 full-empty : (m : ℕ) → full (empty m) ≡ 0
 full-empty zero = refl

@@ -8,21 +8,20 @@ use native.Mathlib.Omega.{arith}
 use lib.ListN.{length, length-replicate}
 use Rattle.terms.specs.Reads.{Read}
 use Rattle.card.specs.Rule.{keyOf, place, afterRead}
-use Rattle.card.specs.Run.{blockRead, wanted, empty, next, run, cardAfter}
+use Rattle.card.specs.Run.{blockRead, asked, empty, next, run, cardAfter}
 use Rattle.card.specs.State.{apart}
 use Rattle.card.proofs.Tests.{by-lt, by-eq, tests}
-use Rattle.card.proofs.Shifts.{out, out-mono, out-lo, out-le, put-mono}
-use Rattle.card.proofs.Moves.{depth, moved, Apart, depth-le, length-moved, apart-moved, depth-apart, depth-moved, depth-moved-same, depth-moved-absent, place-there, depth-there}
+use Rattle.card.proofs.TwoMoves.Shifts.{out, out-mono, out-lo, out-le, put-mono}
+use Rattle.card.proofs.TwoMoves.Moves.{depth, moved, Apart, depth-le, length-moved, apart-moved, depth-apart, depth-moved, depth-moved-same, depth-moved-absent, place-there, depth-there}
 use Rattle.card.proofs.TwoMoves.{two-moves}
-use Rattle.card.proofs.AfterRead.{apart-test, length-after}
+use Rattle.card.proofs.AfterRead.{apart-test}
+use Rattle.card.proofs.Discards.{discarded, discard-read}
+use Rattle.card.proofs.Asked.{asked-some, length-next, read-upto}
 
--- no key is 0, and no read asks for place 0
+-- no key is 0
 pub key-some : (r : Read) → 0 < blockRead r
 unfolding keyOf
 key-some r = omega arith
-
-pub wanted-some : (r : Read) → 1 ≤ wanted r
-wanted-some r = omega arith
 
 -- a card and a larger one: each block of the smaller is in the larger, at the same place or nearer the top
 pub record Under (c d : List ℕ) : Type 0 where
@@ -60,7 +59,17 @@ pub under-after : (c d : List ℕ) (x p : ℕ) → 0 < x → 1 ≤ p → Under c
 under-after c d x p z h u = rw (two-moves c x p h, two-moves d x p h) (under-moved c d x (p - 1) (omega arith) u)
 
 pub under-next : (c d : List ℕ) (r : Read) → Under c d → Under (next c r) (next d r)
-under-next c d r u = under-after c d (blockRead r) (wanted r) (key-some r) (wanted-some r) u
+under-next c d r u =
+    rw (read-upto c (blockRead r) (length d) (u .fits) r)
+    (under-after c d (blockRead r) (asked (length d) r) (key-some r) (asked-some (length d) r) u)
+
+-- a discard keeps a smaller card within a larger
+pub under-discard : (c d : List ℕ) (x : ℕ) → 0 < x → Under c d → Under (discarded c x) (discarded d x)
+under-discard c d x z u =
+    let l = u .fits in
+    let a : length c < suc (length d) = omega arith in
+    let b : length d < suc (length d) = omega arith in
+    rw (← discard-read c x (suc (length d)) a, ← discard-read d x (suc (length d)) b) (under-after c d x (suc (length d)) z (omega arith) u)
 
 under-run : (rs : List Read) (c d : List ℕ) → Under c d → Under (run c rs) (run d rs)
 under-run [] c d u = u
@@ -78,7 +87,7 @@ apart-empty (suc m) = ((λ n. absurd (n refl)), apart-empty m)
 -- a card keeps its size
 length-run : (rs : List Read) (c : List ℕ) → length (run c rs) ≡ length c
 length-run [] c = refl
-length-run (r ∷ rs) c = length-run rs (next c r) ∙ length-after c (blockRead r) (wanted r) (wanted-some r)
+length-run (r ∷ rs) c = length-run rs (next c r) ∙ length-next c r
 
 pub length-card : (m : ℕ) (rs : List Read) → length (cardAfter m rs) ≡ m
 length-card m rs = length-run rs (empty m) ∙ length-replicate m 0

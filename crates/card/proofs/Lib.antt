@@ -1,29 +1,26 @@
+-- cases
 pub mod Tests
 pub mod OutcomeCases
-pub mod Searches
-pub mod Sweeps
-pub mod States
-pub mod Steps
-pub mod CountCases
-pub mod Shifts
-pub mod Moves
-pub mod Forms
+-- one read on a card
 pub mod TwoMoves
 pub mod AfterRead
+pub mod Discards
+pub mod Asked
+pub mod Keys
+-- how sizes nest
 pub mod Inclusion
+pub mod ReadKeys
 pub mod Outcomes
 pub mod NextPlaces
-pub mod Members
-pub mod Keys
-pub mod StretchBounds
+-- stretches
 pub mod Blocks
+pub mod StretchBounds
 pub mod Totals
-pub mod TotalBound
+-- the step, and the contracts
 pub mod ValidStates
 pub mod StepCounts
 pub mod Determined
+-- for what is to come
 pub mod Full
-pub mod Discards
 pub mod Lru
-pub mod LruStretches
 pub mod Stirred

@@ -9,7 +9,7 @@ use lib.Dec.{eqb}
 use lib.ListN.{length, getD}
 use Rattle.terms.specs.Reads.{Read}
 use Rattle.card.specs.Rule.{place, outcome, outcomeOn}
-use Rattle.card.specs.Run.{blockRead, wanted, empty, next, outcomes, occurrences, count, misses}
+use Rattle.card.specs.Run.{blockRead, asked, empty, next, outcomes, occurrences, count, misses}
 use Rattle.card.proofs.Tests.{by-eq, tests}
 use Rattle.card.proofs.OutcomeCases.{by-outcome}
 use Rattle.card.proofs.Inclusion.{Under, under-next, under-empty, place-under, key-some}
@@ -46,7 +46,7 @@ sum-outcomes : (rs : List Read) (c : List ℕ)
     → occurrences 0 (outcomes c rs) + occurrences 1 (outcomes c rs) + occurrences 2 (outcomes c rs) + occurrences 3 (outcomes c rs) + occurrences 4 (outcomes c rs) + occurrences 5 (outcomes c rs) ≡ length rs
 sum-outcomes [] c = refl
 sum-outcomes (r ∷ rs) c =
-    omega (arith, sum-outcomes rs (next c r), one-of-six (outcomeOn c (blockRead r) (wanted r)) (six-outcomes (length c) (place c (blockRead r)) (wanted r)))
+    omega (arith, sum-outcomes rs (next c r), one-of-six (outcomeOn c (blockRead r) (asked (length c) r)) (six-outcomes (length c) (place c (blockRead r)) (asked (length c) r)))
 
 -- the six counts add up to the reads
 pub counts-sum : (m : ℕ) (rs : List Read) → count m 0 rs + count m 1 rs + count m 2 rs + count m 3 rs + count m 4 rs + count m 5 rs ≡ length rs
@@ -66,7 +66,7 @@ miss-absent m j p =
 
 count-absent : (rs : List Read) (c : List ℕ) → occurrences 4 (outcomes c rs) + occurrences 5 (outcomes c rs) ≡ absences c rs
 count-absent [] c = refl
-count-absent (r ∷ rs) c = omega (arith, count-absent rs (next c r), miss-absent (length c) (place c (blockRead r)) (wanted r))
+count-absent (r ∷ rs) c = omega (arith, count-absent rs (next c r), miss-absent (length c) (place c (blockRead r)) (asked (length c) r))
 
 -- misses are the reads whose block is not there
 pub misses-absent : (m : ℕ) (rs : List Read) → misses m rs ≡ absences (empty m) rs

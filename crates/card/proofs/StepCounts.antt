@@ -1,9 +1,9 @@
 -- The counts of a host that keeps one card: what its steps from the empty card add up is the run's.
 use mathlib.Core.Path.{_≡_, refl, sym, ap, _∙_}
 use mathlib.Core.Logic.{_≢_}
-use mathlib.Core.Bool.{Bool, true, cond, not}
+use mathlib.Core.Bool.{true, not}
 use mathlib.Core.List.{List, [], _∷_, map}
-use Prim.Native.Nat.{ℕ, zero, suc, _+_, _≤_, _<_}
+use Prim.Native.Nat.{ℕ, suc, _+_, _≤_, _<_}
 use native.Mathlib.Omega.{arith}
 use borrow.Author.Tests.{le-leb, lt-ltb}
 use lib.Dec.{eqb}
@@ -12,7 +12,7 @@ use lib.Seq.{getD-set-same, getD-set-other, ext-getD}
 use Rattle.terms.specs.Ranges.{inRange, size}
 use Rattle.terms.specs.Reads.{Read, ReadsOk}
 use Rattle.card.specs.Rule.{place, outcome}
-use Rattle.card.specs.Run.{blockRead, wanted, empty, next, outcomes, occurrences, count}
+use Rattle.card.specs.Run.{blockRead, asked, empty, next, outcomes, occurrences, count}
 use Rattle.card.specs.State.{Answer, Outcome, Refused}
 use Rattle.card.specs.Counts.{isHit, slotOf, countsLent, largestCount, countsAfter}
 use Rattle.card.proofs.Tests.{by-eq, tests}
@@ -83,7 +83,7 @@ added-up (o ∷ os) counts all room =
 
 outcomes-six : (rs : List Read) (c : List ℕ) → Outcomes (outcomes c rs)
 outcomes-six [] c = tt
-outcomes-six (r ∷ rs) c = (six-outcomes (length c) (place c (blockRead r)) (wanted r), outcomes-six rs (next c r))
+outcomes-six (r ∷ rs) c = (six-outcomes (length c) (place c (blockRead r)) (asked (length c) r), outcomes-six rs (next c r))
 
 length-outcomes : (rs : List Read) (c : List ℕ) → length (outcomes c rs) ≡ length rs
 length-outcomes [] c = refl

@@ -10,13 +10,14 @@ use lib.ListN.{length, getD}
 use Rattle.terms.specs.Reads.{Read}
 use Rattle.card.specs.Rule.{place, afterRead}
 use Rattle.card.specs.Moves.{putIn}
-use Rattle.card.specs.Run.{blockRead, wanted, cardAfter}
+use Rattle.card.specs.Run.{blockRead, asked, cardAfter}
 use Rattle.card.specs.Stretches.{sumOver}
 use Rattle.card.proofs.Tests.{by-lt, by-eq, tests}
-use Rattle.card.proofs.Moves.{Apart, place-getD}
+use Rattle.card.proofs.TwoMoves.Moves.{Apart, place-getD}
 use Rattle.card.proofs.AfterRead.{place-other}
-use Rattle.card.proofs.Inclusion.{wanted-some, length-card, card-apart}
-use Rattle.card.proofs.Members.{among-rest, among-getD, sum-ones}
+use Rattle.card.proofs.Asked.{asked-some}
+use Rattle.card.proofs.Inclusion.{length-card, card-apart}
+use Rattle.card.proofs.Blocks.{among-rest, among-getD, sum-ones}
 
 -- 1 where the block k is another than x and in both cards, at two places
 abbrev pub stirs : (c d : List ℕ) → (x k : ℕ) → ℕ
@@ -29,7 +30,7 @@ stirredOn c x p = sumOver (stirs c (afterRead c x p) x) c
 -- what one read moves, over sizes 1 to N
 abbrev pub stirred : List Read → Read → ℕ → ℕ
 stirred rs r zero = 0
-stirred rs r (suc n) = stirred rs r n + stirredOn (cardAfter (suc n) rs) (blockRead r) (wanted r)
+stirred rs r (suc n) = stirred rs r n + stirredOn (cardAfter (suc n) rs) (blockRead r) (asked (suc n) r)
 
 unless-one : (t : Bool) (n : ℕ) → n ≤ 1 → cond t 0 n ≤ 1
 unless-one true n h = omega arith
@@ -76,7 +77,7 @@ stirred-twice : (rs : List Read) (r : Read) (N : ℕ) → 2 * stirred rs r N + N
 stirred-twice rs r zero = omega arith
 stirred-twice rs r (suc n) =
     let l = length-card (suc n) rs in
-    omega (arith, stirred-twice rs r n, stirred-less (cardAfter (suc n) rs) (blockRead r) (wanted r) (wanted-some r) (card-apart (suc n) rs) (omega arith))
+    omega (arith, stirred-twice rs r n, stirred-less (cardAfter (suc n) rs) (blockRead r) (asked (suc n) r) (asked-some (suc n) r) (card-apart (suc n) rs) (omega arith))
 
 -- one read moves no more than this
 pub stirred-bound : (rs : List Read) (r : Read) (N : ℕ) → stirred rs r N ≤ N * (N - 1) / 2

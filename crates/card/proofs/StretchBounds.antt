@@ -15,7 +15,7 @@ use Rattle.card.proofs.Tests.{by-eq, tests, here, here-one, some-here}
 use Rattle.card.proofs.OutcomeCases.{place-in}
 use Rattle.card.proofs.AfterRead.{apart-holds}
 use Rattle.card.proofs.Inclusion.{inclusion, length-card}
-use Rattle.card.proofs.Members.{sum-among, sum-ones, ones-sum}
+use Rattle.card.proofs.Blocks.{sum-among, sum-ones, ones-sum}
 
 pub starts-here : (a b : ℕ) → starts a b ≤ here b
 starts-here a b =

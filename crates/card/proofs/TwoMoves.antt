@@ -1,4 +1,7 @@
 -- The six rows of the table are the two moves.
+pub mod Shifts
+pub mod Moves
+pub mod Forms
 use mathlib.Core.Path.{_≡_, refl, sym, ap, _∙_}
 use mathlib.Core.List.{List, [], _∷_, _++_, append-assoc, append-nil}
 use Prim.Native.Nat.{ℕ, zero, suc, _+_, _-_, _≤_, _<_}
@@ -8,9 +11,9 @@ use lib.Seq.{take-take, take-append-le, drop-append-le, take-append-add, drop-ap
 use Rattle.card.specs.Rule.{place, lowered, raised, effects, afterRead}
 use Rattle.card.proofs.Tests.{by-eq, tests}
 use Rattle.card.proofs.OutcomeCases.{by-outcome}
-use Rattle.card.proofs.Moves.{depth-there, depth-absent, depth, without, insertAt, moved, getD-depth, length-without}
-use Rattle.card.proofs.Shifts.{out-hi}
-use Rattle.card.proofs.Forms.{hit-in, hit-by, miss-in, miss-by}
+use Rattle.card.proofs.TwoMoves.Moves.{depth-there, depth-absent, depth, without, insertAt, moved, getD-depth, length-without}
+use Rattle.card.proofs.TwoMoves.Shifts.{out-hi}
+use Rattle.card.proofs.TwoMoves.Forms.{hit-in, hit-by, miss-in, miss-by}
 
 -- the lists of the two moves in parts
 drop-take : (q j : ℕ) (l : List ℕ) → drop q (take j l) ≡ take (j - q) (drop q l)

@@ -13,12 +13,13 @@ use borrow.Author.Tests.{le-leb, eqb-true, ne-eqb}
 use Rattle.terms.specs.Reads.{Read, readOf, ReadOk, ReadsOk}
 use Rattle.terms.specs.Ranges.{inRange, size, volume, block, priority}
 use Rattle.card.specs.Rule.{keyOf, place, oneLower, outcomeOn, afterRead}
-use Rattle.card.specs.Run.{blockRead, wanted, empty, next, run, cardAfter, outcomes}
+use Rattle.card.specs.Run.{blockRead, asked, empty, next, run, cardAfter, outcomes}
 use Rattle.card.specs.State.{every, isEmpty, isKey, largestKey, apart, isState, Answer, Outcome, Stepped, stepOf, stepping, refusing}
 use Rattle.terms.proofs.Ranges.{and-both, bounds}
 use Rattle.card.proofs.Tests.{by-eq, tests, both-and}
 use Rattle.card.proofs.AfterRead.{length-after, apart-after, every-after, every-take}
-use Rattle.card.proofs.Inclusion.{key-some, wanted-some, apart-card}
+use Rattle.card.proofs.Asked.{asked-some, length-next}
+use Rattle.card.proofs.Inclusion.{key-some, apart-card}
 
 -- ---- a card and the empty places after it
 
@@ -112,10 +113,10 @@ pub state-stays : (m : ℕ) (places : List ℕ) (v b p : ℕ) → m ≤ length p
 unfolding stepOf
 state-stays m places v b p room low ok = rw ok (go (inRange volume v) (inRange priority p) refl)
   where
-    go : (t u : Bool) → inRange volume v ≡ t → isState (cond t (cond u (stepping m places (blockRead (readOf v b p)) (wanted (readOf v b p))) (refusing (priority .refusal) m places)) (refusing (volume .refusal) m places) .size) (cond t (cond u (stepping m places (blockRead (readOf v b p)) (wanted (readOf v b p))) (refusing (priority .refusal) m places)) (refusing (volume .refusal) m places) .places) ≡ true
+    go : (t u : Bool) → inRange volume v ≡ t → isState (cond t (cond u (stepping m places (blockRead (readOf v b p)) (asked m (readOf v b p))) (refusing (priority .refusal) m places)) (refusing (volume .refusal) m places) .size) (cond t (cond u (stepping m places (blockRead (readOf v b p)) (asked m (readOf v b p))) (refusing (priority .refusal) m places)) (refusing (volume .refusal) m places) .places) ≡ true
     go true true e =
-        of-valid m (afterRead (take m places) (keyOf v b) (wanted (readOf v b p)) ++ drop m places)
-        (valid-after m places room (valid-of m places ok) (keyOf v b) (wanted (readOf v b p)) (key-some (readOf v b p)) (wanted-some (readOf v b p)) (key-valid v b e low))
+        of-valid m (afterRead (take m places) (keyOf v b) (asked m (readOf v b p)) ++ drop m places)
+        (valid-after m places room (valid-of m places ok) (keyOf v b) (asked m (readOf v b p)) (key-some (readOf v b p)) (asked-some m (readOf v b p)) (key-valid v b e low))
     go true false e = ok
     go false u e = ok
 
@@ -137,19 +138,19 @@ answers m places (r ∷ rs) = stepFor m places r .answer ∷ answers m (stepFor 
 
 module _ (m k : ℕ) where
   step-next : (c : List ℕ) (r : Read) → length c ≡ m → Valid m (c ++ empty k) → ReadOk r
-      → stepFor m (c ++ empty k) r ≡ record { answer = Outcome (outcomeOn c (blockRead r) (wanted r)); size = m; places = next c r ++ empty k }
+      → stepFor m (c ++ empty k) r ≡ record { answer = Outcome (outcomeOn c (blockRead r) (asked (length c) r)); size = m; places = next c r ++ empty k }
   unfolding stepOf
-  step-next c r e v ok = rw (of-valid m (c ++ empty k) v, ok .0, ok .2, take-at c (empty k) m e, drop-at c (empty k) m e)
+  step-next c r e v ok = rw (of-valid m (c ++ empty k) v, ok .0, ok .2, take-at c (empty k) m e, drop-at c (empty k) m e, e)
 
   steps-from : (rs : List Read) (c : List ℕ) → length c ≡ m → Valid m (c ++ empty k) → ReadsOk rs
       → (steps m (c ++ empty k) rs ≡ run c rs ++ empty k) × (answers m (c ++ empty k) rs ≡ map Outcome (outcomes c rs))
   steps-from [] c e v ok = (refl, refl)
   steps-from (r ∷ rs) c e v ok =
       let here = step-next c r e v (ok .0) in
-      let more = steps-from rs (next c r) (length-after c (blockRead r) (wanted r) (wanted-some r) ∙ e) (subst (Valid m) (whole c r e) (valid-after m (c ++ empty k) (omega (arith, length-append c (empty k))) v (blockRead r) (wanted r) (key-some r) (wanted-some r) (key-valid (r .volume) (r .block) (ok .0 .0) (bounds block (r .block) (ok .0 .1) .1)))) (ok .1) in
-      (ap (λ (s : Stepped). steps m (s .places) rs) here ∙ more .0, ap (λ (s : Stepped). s .answer ∷ answers m (s .places) rs) here ∙ ap (λ (l : List Answer). Outcome (outcomeOn c (blockRead r) (wanted r)) ∷ l) (more .1))
+      let more = steps-from rs (next c r) (length-next c r ∙ e) (subst (Valid m) (whole c r e) (valid-after m (c ++ empty k) (omega (arith, length-append c (empty k))) v (blockRead r) (asked (length c) r) (key-some r) (asked-some (length c) r) (key-valid (r .volume) (r .block) (ok .0 .0) (bounds block (r .block) (ok .0 .1) .1)))) (ok .1) in
+      (ap (λ (s : Stepped). steps m (s .places) rs) here ∙ more .0, ap (λ (s : Stepped). s .answer ∷ answers m (s .places) rs) here ∙ ap (λ (l : List Answer). Outcome (outcomeOn c (blockRead r) (asked (length c) r)) ∷ l) (more .1))
     where
-      whole : (c : List ℕ) (r : Read) → length c ≡ m → afterRead (take m (c ++ empty k)) (blockRead r) (wanted r) ++ drop m (c ++ empty k) ≡ next c r ++ empty k
+      whole : (c : List ℕ) (r : Read) → length c ≡ m → afterRead (take m (c ++ empty k)) (blockRead r) (asked (length c) r) ++ drop m (c ++ empty k) ≡ next c r ++ empty k
       whole c r e = rw (take-at c (empty k) m e, drop-at c (empty k) m e)
 
   module _ (h : inRange size m ≡ true) (rs : List Read) (ok : ReadsOk rs) where

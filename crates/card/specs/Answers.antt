@@ -7,8 +7,8 @@ use Rattle.card.specs.Ratio as ratio
 use Rattle.card.specs.declared.step.Answer.{Answer}
 use Rattle.card.specs.declared.step.Answer.the-variants as the-answer
 use Rattle.card.specs.declared.step.Stepped.{Stepped}
-use Rattle.card.specs.declared.counts.Counted.{Counted}
-use Rattle.card.specs.declared.counts.Counted.the-variants as the-counted
+use Rattle.card.specs.declared.counting.Counted.{Counted}
+use Rattle.card.specs.declared.counting.Counted.the-variants as the-counted
 use Rattle.card.specs.declared.ratio.MissRatio.{MissRatio}
 use Rattle.card.specs.declared.ratio.MissRatio.the-variants as the-ratio
 

@@ -3,7 +3,7 @@ use Prim.Native.Nat.{ℕ, _+_, max}
 use mathlib.Core.Bool.{cond}
 use mathlib.Core.List.{List, [], _∷_}
 use lib.Dec.{eqb}
-use lib.ListN.{replicate}
+use lib.ListN.{length, replicate}
 use Rattle.terms.specs.Reads.{Read}
 use Rattle.card.specs.Rule.{keyOf, outcomeOn, afterRead}
 
@@ -11,9 +11,9 @@ use Rattle.card.specs.Rule.{keyOf, outcomeOn, afterRead}
 abbrev pub blockRead : Read → ℕ
 blockRead r = keyOf (r .volume) (r .block)
 
--- the place that a read asks for: its priority, which is at least 1
-abbrev pub wanted : Read → ℕ
-wanted r = max 1 (r .priority)
+-- the place that a read asks for on a card of size m: its priority, which is at least 1
+unfoldable pub asked : (m : ℕ) → Read → ℕ
+asked m r = max 1 (r .priority)
 
 -- the empty card of size m
 abbrev pub empty : ℕ → List ℕ
@@ -21,7 +21,7 @@ empty m = replicate m 0
 
 -- the card after one read more
 abbrev pub next : List ℕ → Read → List ℕ
-next c r = afterRead c (blockRead r) (wanted r)
+next c r = afterRead c (blockRead r) (asked (length c) r)
 
 -- the card after reads
 abbrev pub run : List ℕ → List Read → List ℕ
@@ -35,7 +35,7 @@ cardAfter m rs = run (empty m) rs
 -- the outcomes of reads in turn
 abbrev pub outcomes : List ℕ → List Read → List ℕ
 outcomes c [] = []
-outcomes c (r ∷ rs) = outcomeOn c (blockRead r) (wanted r) ∷ outcomes (next c r) rs
+outcomes c (r ∷ rs) = outcomeOn c (blockRead r) (asked (length c) r) ∷ outcomes (next c r) rs
 
 -- how often a number stands in a list
 abbrev pub occurrences : ℕ → List ℕ → ℕ

@@ -10,7 +10,7 @@ use Rattle.terms.specs.Refusals.{numberOf}
 use Rattle.terms.specs.Ranges.{inRange, size, volume, block, priority}
 use Rattle.terms.specs.Reads.{readOf}
 use Rattle.card.specs.Rule.{keyOf, place, outcomeOn, afterRead}
-use Rattle.card.specs.Run.{blockRead, wanted}
+use Rattle.card.specs.Run.{blockRead, asked}
 
 -- a test passes at every place
 abbrev pub every : (ℕ → Bool) → List ℕ → Bool
@@ -68,7 +68,7 @@ stepOf m places v b p =
     cond (isState m places)
     (cond (inRange volume v)
     (cond (inRange priority p)
-    (stepping m places (blockRead (readOf v b p)) (wanted (readOf v b p)))
+    (stepping m places (blockRead (readOf v b p)) (asked m (readOf v b p)))
     (refusing (priority .refusal) m places))
     (refusing (volume .refusal) m places))
     (refusing State m places)

@@ -1,5 +1,6 @@
 // When a size and places are a state.
 use crate::places::place_of;
+use terms::LARGEST_SIZE;
 ghost use mathlib.Core.Path.{_≡_};
 ghost use Prim.Native.Nat.{_≤_};
 ghost use lib.ListN.{length};
@@ -44,7 +45,7 @@ pub fn is_state(places: &[u64], m: usize) -> bool
     requires { ⌜ size .largest ≤ length (now places) ⌝ }
     ensures { λ r. ⌜ r ≡ isState m (now (places .entry)) ⌝ }
 {
-    if !terms::is_size(m as u64) {
+    if !terms::is_size(m as u64, LARGEST_SIZE as u64) {
         return false;
     }
     if !all_at_most(&places[m..], 0) {

@@ -4,6 +4,8 @@ ghost use Prim.Native.Nat.{_≤_};
 ghost use lib.ListN.{length};
 ghost use Rattle.sheet_text.specs.Desk.{printedOf};
 ghost use Rattle.sheet_text.specs.Sheet.{longestSheet, Shows};
+use counts::tallies::COLUMNS;
+use engine::rows::ALL_ROWS;
 use libc::STDIN_FILENO;
 use libc::STDOUT_FILENO;
 use sheet_text::desk::LARGEST_INPUT;
@@ -79,8 +81,8 @@ fn sheet_of(input: &[u8], text: &mut [u8]) -> usize
     ensures short { λ r. ⌜ r ≤ longestSheet ⌝ }
 {
     let mut blocks = [0u64; LARGEST_SIZE];
-    let mut stretches = [0u16; 2 * LARGEST_SIZE * ((LARGEST_SIZE + 1) / 2)];
-    let mut counts = [0u64; 6 * LARGEST_SIZE];
+    let mut stretches = [0u16; ALL_ROWS];
+    let mut counts = [0u64; COLUMNS * LARGEST_SIZE];
     desk_sheet(input, &mut blocks, &mut stretches, &mut counts, text)
 }
 

@@ -1,8 +1,4 @@
-pub mod Puts
 pub mod Decimals
+pub mod Puts
 pub mod PutCases
-pub mod Lines
-pub mod Bounds
-pub mod Sheets
 pub mod SheetFacts
-pub mod Desks

@@ -2,7 +2,7 @@
 use mathlib.Core.Path.{_≡_, refl, ap, ap₂, _∙_}
 use mathlib.Core.Bool.{true, cond}
 use mathlib.Core.List.{List, _++_}
-use Prim.Native.Nat.{ℕ, zero, suc, _+_, _*_, _≤_, _<_}
+use Prim.Native.Nat.{ℕ, zero, suc, _+_, _≤_, _<_}
 use native.Mathlib.Omega.{arith}
 use lib.ListN.{length, take, drop, List·getD-append}
 use lib.Seq.{take-all, take-at}
@@ -15,24 +15,31 @@ use Rattle.terms.proofs.Determined.{one-value}
 use Rattle.trace.specs.Reading.{Reading, Given, Refused, headerAt}
 use Rattle.trace.specs.Trace.{Trace, traceOf}
 use Rattle.card.specs.Run.{count}
-use Rattle.card.specs.Stretches.{peakTotal, peakOfOne}
-use Rattle.sizes.specs.Outcome.{Areas, stretchesLength, countsLength, isRoom, countsOf, fronted, runOf}
+use Rattle.pass.specs.declared.answers.Report.{Report}
+use Rattle.sizes.specs.Outcome.{Areas, Outcome, isRoom, reportOf, runOf}
+use Rattle.engine.specs.Rows.{stretchesLength}
+use Rattle.counts.specs.Columns.{columns, countsLength, cellOf, countsOf}
+use Rattle.terms.specs.Areas.{fronted}
 use Rattle.sizes.specs.Answers.{areasOf, AreasAre}
-use Rattle.sizes.proofs.RanOutcomes.{counts-length}
-use Rattle.sizes.proofs.RanFacts.{Accepted, done-accepted, accepted-done, count-at, areas-determined}
+use Rattle.counts.proofs.Tables.{counts-length, count-at}
+use Rattle.sizes.proofs.RanFacts.{Accepted, done-accepted, accepted-done, areas-determined}
 use Rattle.sizes.proofs.RoomFacts.{room-less, answer-by-trace}
-use Rattle.sheet_text.specs.Sheet.{heading, cell, sixOf, lineOf, linesOf, refusedLine, sheetOf, shown, Shows}
+use Rattle.sheet_text.specs.Sheet.{heading, cell, spaced, spacedRow, lineOf, linesOf, refusedLine, sheetOf, shown, Shows}
 use Rattle.sheet_text.specs.Desk.{largestInput, isLarge, deskSheetOf, areasAfter, printedBy, printedOf}
-use Rattle.sheet_text.proofs.Bounds.{size-within, trace-size}
+use Rattle.sheet_text.proofs.sheet.Bounds.{size-within, trace-size}
 
 -- ---- lines with the same counts
 
-line-same : (f g : ℕ → ℕ) (m : ℕ) → ((o : ℕ) → o < 6 → f o ≡ g o) → lineOf f m ≡ lineOf g m
-unfolding lineOf sixOf
-line-same f g m h =
-    rw (h 0 (omega arith), h 1 (omega arith), h 2 (omega arith), h 3 (omega arith), h 4 (omega arith), h 5 (omega arith))
+row-same : (f g : ℕ → ℕ) (k : ℕ) → ((o : ℕ) → o < k → f o ≡ g o) → spacedRow k f ≡ spacedRow k g
+unfolding spacedRow
+row-same f g zero h = refl
+row-same f g (suc k) h = ap₂ (λ (x y : List ℕ). x ++ y) (row-same f g k (λ o l. h o (omega arith))) (ap spaced (h k (omega arith)))
 
-lines-same : (f g : ℕ → ℕ → ℕ) (n : ℕ) → ((m o : ℕ) → m < n → o < 6 → f m o ≡ g m o) → linesOf f n ≡ linesOf g n
+line-same : (f g : ℕ → ℕ) (m : ℕ) → ((o : ℕ) → o < columns → f o ≡ g o) → lineOf f m ≡ lineOf g m
+unfolding lineOf
+line-same f g m h = rw (row-same f g columns h, h 4 (omega arith), h 5 (omega arith))
+
+lines-same : (f g : ℕ → ℕ → ℕ) (n : ℕ) → ((m o : ℕ) → m < n → o < columns → f m o ≡ g m o) → linesOf f n ≡ linesOf g n
 unfolding linesOf
 lines-same f g zero h = refl
 lines-same f g (suc n) h = ap₂ (λ (x y : List ℕ). x ++ y) (lines-same f g n (λ m o l k. h m o (omega arith) k)) (line-same (f n) (g n) n (λ o k. h n o (omega arith) k))
@@ -46,28 +53,28 @@ module _ (s : List ℕ) (areas : Areas) (t : Trace) (end : ℕ) where
   abbrev rs : List Read
   rs = t .reads
 
-  module _ (e : traceOf s ≡ Given t end) (room : isRoom (t .header .size) areas ≡ true) where
-    same-counts : (reads total one : ℕ) → Accepted s areas reads total one → runOf s areas .areas .counts ≡ fronted (countsOf n rs) (areas .counts)
-    same-counts reads total one a =
+  module _ (e : traceOf (size .largest) s ≡ Given t end) (room : isRoom (t .header .size) areas ≡ true) where
+    same-counts : (report : Report) → Accepted s areas report → runOf s areas .areas .counts ≡ fronted (countsOf n rs) (areas .counts)
+    same-counts report a =
         let same : a .trace ≡ t = cc (a .is-trace, e) in
         a .counts-are ∙ ap (λ (u : Trace). fronted (countsOf (u .header .size) (u .reads)) (areas .counts)) same
 
     -- what the run leaves past the counts is on no line
-    front-cell : (m o : ℕ) → m < n → o < 6 → cell (fronted (countsOf n rs) (areas .counts)) m o ≡ cell (countsOf n rs) m o
+    front-cell : (m o : ℕ) → m < n → o < columns → cell (fronted (countsOf n rs) (areas .counts)) m o ≡ cell (countsOf n rs) m o
     front-cell m o h g =
-        List·getD-append (countsOf n rs) (drop (length (countsOf n rs)) (areas .counts)) 0 (6 * m + o) (omega (arith, counts-length n rs))
+        List·getD-append (countsOf n rs) (drop (length (countsOf n rs)) (areas .counts)) 0 (cellOf m o) (omega (arith, counts-length n rs))
 
-    sheet-fronted : sheetOf s areas ≡ heading (length rs) (peakTotal n rs) (peakOfOne n rs) ++ linesOf (cell (fronted (countsOf n rs) (areas .counts))) n
+    sheet-fronted : sheetOf s areas ≡ heading (reportOf n rs) ++ linesOf (cell (fronted (countsOf n rs) (areas .counts))) n
     unfolding sheetOf
     sheet-fronted =
-        let done = accepted-done s areas t end e room in
-        let left = same-counts (length rs) (peakTotal n rs) (peakOfOne n rs) (done-accepted s areas (length rs) (peakTotal n rs) (peakOfOne n rs) done) in
+        let done = ap (λ (o : Outcome). o .answer) (accepted-done s areas t end e room) in
+        let left = same-counts (reportOf n rs) (done-accepted s areas (reportOf n rs) done) in
         rw (done, left, trace-size s t end e)
 
     -- the reads, the peaks, and for each size the counts of the run of that size alone
-    pub sheet-by-runs : sheetOf s areas ≡ heading (length rs) (peakTotal n rs) (peakOfOne n rs) ++ linesOf (λ m o. count (suc m) o rs) n
+    pub sheet-by-runs : sheetOf s areas ≡ heading (reportOf n rs) ++ linesOf (λ m o. count (suc m) o rs) n
     sheet-by-runs =
-        sheet-fronted ∙ ap (λ (x : List ℕ). heading (length rs) (peakTotal n rs) (peakOfOne n rs) ++ x)
+        sheet-fronted ∙ ap (λ (x : List ℕ). heading (reportOf n rs) ++ x)
         (lines-same (cell (fronted (countsOf n rs) (areas .counts))) (λ m o. count (suc m) o rs) n (λ m o h g. front-cell m o h g ∙ count-at n rs m o h g))
 
 -- ---- areas with room for the largest size
@@ -79,16 +86,16 @@ module _ (s blocks stretches counts : List ℕ) (h : size .largest ≤ length bl
   room : isRoom (size .largest) areas ≡ true
   room = rw (le-leb (size .largest) (length blocks) h, le-leb (stretchesLength (size .largest)) (length stretches) g, le-leb (countsLength (size .largest)) (length counts) f)
 
-  sheet-printed : (x : Reading Trace) → traceOf s ≡ x → sheetOf s areas ≡ printedBy x
+  sheet-printed : (x : Reading Trace) → traceOf (size .largest) s ≡ x → sheetOf s areas ≡ printedBy x
   unfolding sheetOf
   sheet-printed (Given t end) e =
-      sheet-by-runs s areas t end e (room-less areas (t .header .size) (size .largest) (omega (arith, trace-size s t end e, size-within s (headerAt s 0) refl)) room)
+      sheet-by-runs s areas t end e (room-less areas (t .header .size) (size .largest) (omega (arith, trace-size s t end e, size-within s (headerAt (size .largest) s 0) refl)) room)
   sheet-printed (Refused number place) e = rw (answer-by-trace s areas room, e)
 
   -- the sheet comes from the input alone
   pub desk-printed : deskSheetOf s (areasOf blocks stretches counts) ≡ printedOf s
   unfolding deskSheetOf printedOf
-  desk-printed = ap (λ (x : List ℕ). cond (isLarge s) (refusedLine (numberOf Large) largestInput) x) (sheet-printed (traceOf s) refl)
+  desk-printed = ap (λ (x : List ℕ). cond (isLarge s) (refusedLine (numberOf Large) largestInput) x) (sheet-printed (traceOf (size .largest) s) refl)
 
   pub text-printed : (before : List ℕ) {r : ℕ} {after : List ℕ}
       → (r ≡ length (deskSheetOf s (areasOf blocks stretches counts))) × (after ≡ shown (deskSheetOf s (areasOf blocks stretches counts)) before)

@@ -6,11 +6,11 @@ use lib.Dec.{ltb}
 use lib.ListN.{length}
 use Rattle.terms.specs.declared.Refusal.the-variants.{Large}
 use Rattle.terms.specs.Refusals.{numberOf}
+use Rattle.terms.specs.Ranges.{size}
 use Rattle.trace.specs.Reading.{Reading, Given, Refused}
 use Rattle.trace.specs.Trace.{Trace, traceOf}
 use Rattle.card.specs.Run.{count}
-use Rattle.card.specs.Stretches.{peakTotal, peakOfOne}
-use Rattle.sizes.specs.Outcome.{Areas, runOf}
+use Rattle.sizes.specs.Outcome.{Areas, reportOf, runOf}
 use Rattle.sheet_text.specs.Sheet.{heading, linesOf, refusedLine, sheetOf}
 
 -- the most bytes that the program takes
@@ -31,9 +31,9 @@ areasAfter bytes areas = cond (isLarge bytes) areas (runOf bytes areas .areas)
 -- what a trace comes to on paper: the reads, the peaks and for each size the counts of the run of that size alone; or its one fault
 abbrev pub printedBy : Reading Trace → List ℕ
 printedBy (Given t end) =
-    heading (length (t .reads)) (peakTotal (t .header .size) (t .reads)) (peakOfOne (t .header .size) (t .reads)) ++ linesOf (λ m o. count (suc m) o (t .reads)) (t .header .size)
+    heading (reportOf (t .header .size) (t .reads)) ++ linesOf (λ m o. count (suc m) o (t .reads)) (t .header .size)
 printedBy (Refused number place) = refusedLine number place
 
 -- what the program prints, from its input alone
 unfoldable pub printedOf : List ℕ → List ℕ
-printedOf bytes = cond (isLarge bytes) (refusedLine (numberOf Large) largestInput) (printedBy (traceOf bytes))
+printedOf bytes = cond (isLarge bytes) (refusedLine (numberOf Large) largestInput) (printedBy (traceOf (size .largest) bytes))

@@ -1,10 +1,14 @@
 -- The sheet as bytes, from what a run answers and the counts that it leaves.
-use Prim.Native.Nat.{ℕ, zero, suc, _+_, _*_}
+use Prim.Native.Nat.{ℕ, zero, suc, _+_}
 use mathlib.Core.Path.{_≡_}
 use mathlib.Core.List.{List, [], _∷_, _++_}
 use lib.ListN.{length, getD, take, drop}
 use Rattle.trace.specs.Reading.{Reading, Given, Refused, Header, headerAt}
-use Rattle.sizes.specs.Outcome as outcome
+use Rattle.terms.specs.Ranges.{size}
+use Rattle.counts.specs.Columns.{columns, cellOf}
+use Rattle.pass.specs.Outcome as outcome
+use Rattle.pass.specs.declared.answers.Report.{Report}
+use Rattle.sizes.specs.Outcome.{Areas, runOf}
 use Rattle.sheet_text.specs.Decimal.{decimal}
 
 -- the words of the sheet, in ASCII: "accesses", " stretches", " block", "refused", " at", and the end of a line
@@ -30,21 +34,22 @@ newline = 10 ∷ []
 unfoldable pub spaced : ℕ → List ℕ
 spaced n = 32 ∷ decimal n
 
--- the first line: the reads and the two peaks
-unfoldable pub heading : (reads total one : ℕ) → List ℕ
-heading reads total one = accesses ++ spaced reads ++ stretches ++ spaced total ++ block ++ spaced one ++ newline
+-- the first line: what a finished run tells
+unfoldable pub heading : Report → List ℕ
+heading report = accesses ++ spaced (report .reads) ++ stretches ++ spaced (report .total) ++ block ++ spaced (report .one) ++ newline
 
 -- the count of an outcome for the size after so many sizes
 abbrev pub cell : List ℕ → (m o : ℕ) → ℕ
-cell counts m o = getD counts (6 * m + o) 0
+cell counts m o = getD counts (cellOf m o) 0
 
--- the six counts, by outcome
-unfoldable pub sixOf : (ℕ → ℕ) → List ℕ
-sixOf counts = spaced (counts 0) ++ spaced (counts 1) ++ spaced (counts 2) ++ spaced (counts 3) ++ spaced (counts 4) ++ spaced (counts 5)
+-- the first k counts, by outcome
+unfoldable pub spacedRow : ℕ → (ℕ → ℕ) → List ℕ
+spacedRow zero counts = []
+spacedRow (suc k) counts = spacedRow k counts ++ spaced (counts k)
 
--- the line of the size after m sizes: size, misses, and the six counts
+-- the line of the size after m sizes: size, misses, and all its counts
 unfoldable pub lineOf : (ℕ → ℕ) → ℕ → List ℕ
-lineOf counts m = decimal (m + 1) ++ spaced (counts 4 + counts 5) ++ sixOf counts ++ newline
+lineOf counts m = decimal (m + 1) ++ spaced (counts 4 + counts 5) ++ spacedRow columns counts ++ newline
 
 -- the lines of sizes 1 to n, each with its counts
 unfoldable pub linesOf : (ℕ → ℕ → ℕ) → ℕ → List ℕ
@@ -61,13 +66,13 @@ sizeIn (Given h at₁) = h .size
 sizeIn (Refused number place) = 0
 
 -- the sheet of a run: its answer and its counts
-abbrev pub sheetBy : (n : ℕ) (counts : List ℕ) → outcome.Answer → List ℕ
-sheetBy n counts (outcome.Done reads total one) = heading reads total one ++ linesOf (cell counts) n
+abbrev pub sheetBy : (n : ℕ) (counts : List ℕ) → outcome.Answer Report ℕ → List ℕ
+sheetBy n counts (outcome.Done report) = heading report ++ linesOf (cell counts) n
 sheetBy n counts (outcome.Refused number place) = refusedLine number place
 
 -- the sheet of a trace, in areas that are lent
-unfoldable pub sheetOf : List ℕ → outcome.Areas → List ℕ
-sheetOf bytes areas = sheetBy (sizeIn (headerAt bytes 0)) (outcome.runOf bytes areas .areas .counts) (outcome.runOf bytes areas .answer)
+unfoldable pub sheetOf : List ℕ → Areas → List ℕ
+sheetOf bytes areas = sheetBy (sizeIn (headerAt (size .largest) bytes 0)) (runOf bytes areas .areas .counts) (runOf bytes areas .answer)
 
 -- no sheet is longer
 abbrev pub longestSheet : ℕ

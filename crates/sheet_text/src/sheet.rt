@@ -3,59 +3,65 @@ use crate::text::put_number;
 use crate::text::put_refused;
 use crate::text::put_spaced;
 use crate::text::put_words;
-use sizes::run::Ran;
+use counts::tallies::COLUMNS;
+use pass::answers::Ran;
+use pass::answers::Report;
 use sizes::run::run;
+use terms::LARGEST_SIZE;
 use terms::refusal_number;
 use trace::header::Header;
 use trace::header::read_header;
 ghost use mathlib.Core.Path.{_≡_};
 ghost use Prim.Native.Nat.{ℕ, _+_, _*_, _^_, _<_, _≤_};
 ghost use lib.ListN.{length};
+ghost use Rattle.terms.specs.Ranges.{size};
 ghost use Rattle.trace.specs.Reading.{headerAt};
+ghost use Rattle.counts.specs.Columns.{columns, countsLength};
 ghost use Rattle.sizes.specs.Answers.{areasOf, AreasAre, runIn};
-ghost use Rattle.sheet_text.specs.Sheet.{cell, heading, sixOf, lineOf, linesOf, sizeIn, sheetOf, longestSheet, Shows};
+ghost use Rattle.sheet_text.specs.Sheet.{cell, heading, spacedRow, lineOf, linesOf, sizeIn, sheetOf, longestSheet, Shows};
 ghost use Rattle.sheet_text.specs.Writing.{Wrote};
 
 // The first line.
-fn put_heading(text: &mut [u8], reads: u64, total: u64, one: u64) -> usize
-    ensures { λ r. ⌜ Wrote (now (text .entry)) (now (text .exit)) 0 r (heading reads total one) × (r ≤ 128) ⌝ }
+fn put_heading(text: &mut [u8], report: Report) -> usize
+    ensures { λ r. ⌜ Wrote (now (text .entry)) (now (text .exit)) 0 r (heading report) × (r ≤ 128) ⌝ }
 {
     let mut at = put_words(text, 0, b"accesses");
-    at = put_spaced(text, at, reads);
+    at = put_spaced(text, at, report.reads);
     at = put_words(text, at, b" stretches");
-    at = put_spaced(text, at, total);
+    at = put_spaced(text, at, report.total);
     at = put_words(text, at, b" block");
-    at = put_spaced(text, at, one);
+    at = put_spaced(text, at, report.one);
     put_words(text, at, b"\n")
 }
 
-// The six counts of the size after m sizes.
+// The counts of the size after m sizes.
 fn put_counts(text: &mut [u8], from: usize, counts: &[u64], m: usize) -> usize
-    requires { ⌜ (from < 2 ^ 41) × (6 * m + 6 ≤ length (now counts)) ⌝ }
-    ensures { λ r. ⌜ Wrote (now (text .entry)) (now (text .exit)) from r (sixOf (cell (now (counts .entry)) m)) × (r ≤ from + 126) ⌝ }
+    requires { ⌜ (from < 2 ^ 41) × (countsLength (m + 1) ≤ length (now counts)) ⌝ }
+    ensures { λ r. ⌜ Wrote (now (text .entry)) (now (text .exit)) from r (spacedRow columns (cell (now (counts .entry)) m)) × (r ≤ from + columns * 21) ⌝ }
 {
-    let mut at = put_spaced(text, from, counts[6 * m]);
-    at = put_spaced(text, at, counts[6 * m + 1]);
-    at = put_spaced(text, at, counts[6 * m + 2]);
-    at = put_spaced(text, at, counts[6 * m + 3]);
-    at = put_spaced(text, at, counts[6 * m + 4]);
-    put_spaced(text, at, counts[6 * m + 5])
+    let mut at = from;
+    let mut k = 0;
+    while k < COLUMNS {
+        at = put_spaced(text, at, counts[COLUMNS * m + k]);
+        k += 1;
+    }
+    at
 }
 
 // The line of the size after m sizes.
 fn put_line(text: &mut [u8], from: usize, counts: &[u64], m: usize) -> usize
-    requires { ⌜ (from < 2 ^ 40) × (m < 2 ^ 32) × (6 * m + 6 ≤ length (now counts)) × (cell (now counts) m 4 + cell (now counts) m 5 < 2 ^ 64) ⌝ }
+    requires { ⌜ (from < 2 ^ 40) × (m < 2 ^ 32) × (countsLength (m + 1) ≤ length (now counts)) × (cell (now counts) m 4 + cell (now counts) m 5 < 2 ^ 64) ⌝ }
     ensures { λ r. ⌜ Wrote (now (text .entry)) (now (text .exit)) from r (lineOf (cell (now (counts .entry)) m) m) × (r ≤ from + 256) ⌝ }
 {
     let mut at = put_number(text, from, (m + 1) as u64);
-    at = put_spaced(text, at, counts[6 * m + 4] + counts[6 * m + 5]);
+    at = put_spaced(text, at, counts[COLUMNS * m + 4] + counts[COLUMNS * m + 5]);
     at = put_counts(text, at, counts, m);
     put_words(text, at, b"\n")
 }
 
 // The lines of sizes 1 to n.
 fn put_lines(text: &mut [u8], from: usize, counts: &[u64], n: usize) -> usize
-    requires { ⌜ (from < 2 ^ 20) × (n < 2 ^ 16) × (6 * n ≤ length (now counts)) × ((m : ℕ) → m < n → cell (now counts) m 4 + cell (now counts) m 5 < 2 ^ 64) ⌝ }
+    requires { ⌜ (from < 2 ^ 20) × (n < 2 ^ 16) × (countsLength n ≤ length (now counts)) × ((m : ℕ) → m < n → cell (now counts) m 4 + cell (now counts) m 5 < 2 ^ 64) ⌝ }
     ensures { λ r. ⌜ Wrote (now (text .entry)) (now (text .exit)) from r (linesOf (cell (now (counts .entry))) n) × (r ≤ from + n * 256) ⌝ }
 {
     let mut at = from;
@@ -69,9 +75,9 @@ fn put_lines(text: &mut [u8], from: usize, counts: &[u64], n: usize) -> usize
 
 // The largest size that a trace names, 0 where its header is refused.
 fn size_in(trace: &[u8]) -> usize
-    ensures { λ r. ⌜ r ≡ sizeIn (headerAt (now (trace .entry)) 0) ⌝ }
+    ensures { λ r. ⌜ r ≡ sizeIn (headerAt (size .largest) (now (trace .entry)) 0) ⌝ }
 {
-    match read_header(trace) {
+    match read_header(trace, LARGEST_SIZE as u64) {
         Header::Accepted {
             edition: _,
             size,
@@ -95,8 +101,8 @@ pub fn sheet(
         (now (blocks .exit)) (now (stretches .exit)) (now (counts .exit)) ⌝ }
 {
     match run(trace, blocks, stretches, counts) {
-        Ran::Done { reads, total, one } => {
-            let at = put_heading(text, reads, total, one);
+        Ran::Done(report) => {
+            let at = put_heading(text, report);
             put_lines(text, at, counts, size_in(trace))
         }
         Ran::Refused(why, place) => put_refused(text, refusal_number(why), place),

@@ -8,7 +8,7 @@ use Rattle.trace.specs.Number as number
 use Rattle.trace.specs.Reading as reading
 use Rattle.trace.specs.Spelling.{spell, spelling}
 use Rattle.card.specs.Rule.{keyOf, outcome, afterRead}
-use Rattle.card.specs.Run.{cardAfter, misses}
+use Rattle.card.specs.Run.{asked, cardAfter, misses}
 
 -- what is asked: the spelling of a number, the number or the header that bytes are, a card after reads, or its misses
 pub data Question : Type 0 where
@@ -30,7 +30,7 @@ headerAnswer (reading.Refused n place) = n ∷ place ∷ []
 abbrev pub answer : Question → List ℕ
 answer (spelled v) = spelling v
 answer (numbered s) = numeralAnswer (number.numberAt s 0)
-answer (headed s) = headerAnswer (reading.headerAt s 0)
+answer (headed s) = headerAnswer (reading.headerAt (size .largest) s 0)
 answer (carded m rs) = cardAfter m rs
 answer (missed m rs) = misses m rs ∷ []
 
@@ -59,5 +59,5 @@ figures =
 
 -- every figure holds
 pub figures-hold : map (λ (f : Figure). answer (f .asked)) figures ≡ map (λ (f : Figure). f .given) figures
-unfolding number.numeral reading.headerAt edition size block spell keyOf outcome afterRead
+unfolding number.numeral reading.headerAt edition size block spell keyOf outcome afterRead asked
 figures-hold = refl

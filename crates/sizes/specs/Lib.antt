@@ -1,11 +1,4 @@
-pub mod Rows
-pub mod Moves
-pub mod Tallies
-pub mod Totals
 pub mod Outcome
-pub mod Lists
-pub mod Renewals
-pub mod Sweeps
-pub mod TallySteps
+pub mod Totals
 pub mod Passing
 pub mod Answers

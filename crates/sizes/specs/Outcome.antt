@@ -1,26 +1,26 @@
 -- What the run answers and leaves, from the bytes of the trace, the lengths of the lent areas and what they hold at entry.
-use Prim.Native.Nat.{ℕ, zero, suc, _*_}
+use Prim.Native.Nat.{ℕ}
 use mathlib.Core.Bool.{Bool, _&&_, cond}
-use mathlib.Core.List.{List, [], _∷_, _++_}
+use mathlib.Core.List.{List}
 use lib.Dec.{leb}
-use lib.ListN.{length, drop, replicate}
+use lib.ListN.{length}
 use Rattle.terms.specs.declared.Refusal.the-variants.{Room}
 use Rattle.terms.specs.Refusals.{numberOf}
+use Rattle.terms.specs.Ranges.{size}
 use Rattle.terms.specs.Reads.{Read}
-use Rattle.trace.specs.Reading as reading
+use Rattle.terms.specs.Areas.{zeros, fronted}
+use Rattle.trace.specs.Reading.{Header, headerAt}
 use Rattle.trace.specs.Trace.{readsFrom}
-use Rattle.card.specs.Run.{count}
-use Rattle.card.specs.Stretches.{peakTotal, peakOfOne, half}
+use Rattle.card.specs.Stretches.{peakTotal, peakOfOne}
+use Rattle.counts.specs.Columns.{countsLength, countsOf}
+use Rattle.engine.specs.Rows.{stretchesLength}
+use Rattle.pass.specs.Outcome as outcome
+use Rattle.pass.specs.Frame.{Gate, Open, Shut, Frame, ran}
+use Rattle.pass.specs.declared.answers.Report.{Report}
 
--- the lengths that are asked for
+-- the length of the block area that is asked for
 abbrev pub blocksLength : ℕ → ℕ
 blocksLength n = n
-
-abbrev pub stretchesLength : ℕ → ℕ
-stretchesLength n = 2 * n * half n
-
-abbrev pub countsLength : ℕ → ℕ
-countsLength n = 6 * n
 
 -- the three lent areas
 pub record Areas : Type 0 where
@@ -32,56 +32,36 @@ pub record Areas : Type 0 where
 abbrev pub isRoom : ℕ → Areas → Bool
 isRoom n areas = leb (blocksLength n) (length (areas .blocks)) && (leb (stretchesLength n) (length (areas .stretches)) && leb (countsLength n) (length (areas .counts)))
 
--- the six counts of sizes 1 to n in turn, in the order of the outcomes
-unfoldable pub countsOf : ℕ → List Read → List ℕ
-countsOf zero rs = []
-countsOf (suc n) rs = countsOf n rs ++ (count (suc n) 0 rs ∷ count (suc n) 1 rs ∷ count (suc n) 2 rs ∷ count (suc n) 3 rs ∷ count (suc n) 4 rs ∷ count (suc n) 5 rs ∷ [])
+-- the gate: room for a size
+abbrev pub roomGate : ℕ → Areas → Gate ℕ
+roomGate n areas = cond (isRoom n areas) Open (Shut (numberOf Room) 0)
 
--- a part at the front of an area in the place of what was there
-abbrev pub fronted : List ℕ → List ℕ → List ℕ
-fronted front area = front ++ drop (length front) area
+-- what is told of reads: how many there are, and the two peaks of the separate runs
+abbrev pub reportOf : ℕ → List Read → Report
+reportOf n rs = record { reads = length rs; total = peakTotal n rs; one = peakOfOne n rs }
 
--- so many zeros
-abbrev pub zeros : ℕ → List ℕ
-zeros n = replicate n 0
+-- blocks and stretches zero, and counts at the front of theirs
+abbrev pub emptied : ℕ → (counts : List ℕ) → Areas → Areas
+emptied n counts areas = record {
+  blocks = fronted (zeros (blocksLength n)) (areas .blocks);
+  stretches = fronted (zeros (stretchesLength n)) (areas .stretches);
+  counts = fronted counts (areas .counts);
+}
 
--- the reads and the two peaks, or the refusal's number and its place
-pub data Answer : Type 0 where
-  Done : (reads total one : ℕ) → Answer
-  Refused : (number place : ℕ) → Answer
+-- header, then room, then reads to the end: of them the counts of the separate runs; a refused one leaves zeros
+abbrev pub frameOf : List ℕ → Frame ℕ ℕ Header Read Report Areas
+frameOf bytes = record {
+  header = headerAt (size .largest) bytes 0;
+  gate = λ h. roomGate (h .size);
+  events = λ h at. readsFrom (length bytes) bytes at;
+  told = λ h. reportOf (h .size);
+  left = λ h rs. emptied (h .size) (countsOf (h .size) rs);
+  cleared = λ h. emptied (h .size) (zeros (countsLength (h .size)));
+}
 
 -- the answer, and the areas after it
-pub record Outcome : Type 0 where
-  pub answer : Answer
-  pub areas : Areas
+abbrev pub Outcome : Type 0
+Outcome = outcome.Outcome Report ℕ Areas
 
--- a refusal before the first record leaves the areas untouched
-abbrev pub untouched : (number place : ℕ) → Areas → Outcome
-untouched number place areas = record { answer = Refused number place; areas = areas }
-
--- blocks and stretches zero, and the counts as told
-abbrev pub emptied : ℕ → Answer → List ℕ → Areas → Outcome
-emptied n answer counts areas =
-    record {
-      answer = answer;
-      areas = record {
-        blocks = fronted (zeros (blocksLength n)) (areas .blocks);
-        stretches = fronted (zeros (stretchesLength n)) (areas .stretches);
-        counts = fronted counts (areas .counts);
-      };
-    }
-
--- after the records: the counts and the peaks of the separate runs; a refusal leaves zeros
-abbrev pub recorded : ℕ → Areas → reading.Reading (List Read) → Outcome
-recorded n areas (reading.Given rs at) = emptied n (Done (length rs) (peakTotal n rs) (peakOfOne n rs)) (countsOf n rs) areas
-recorded n areas (reading.Refused number place) = emptied n (Refused number place) (zeros (countsLength n)) areas
-
--- after the header: room, then records
-abbrev pub headed : List ℕ → Areas → reading.Reading reading.Header → Outcome
-headed bytes areas (reading.Given h at) =
-    cond (isRoom (h .size) areas) (recorded (h .size) areas (readsFrom (length bytes) bytes at)) (untouched (numberOf Room) 0 areas)
-headed bytes areas (reading.Refused number place) = untouched number place areas
-
--- header, then room, then records
-unfoldable pub runOf : List ℕ → Areas → Outcome
-runOf bytes areas = headed bytes areas (reading.headerAt bytes 0)
+abbrev pub runOf : List ℕ → Areas → Outcome
+runOf bytes = ran (frameOf bytes)

@@ -1,9 +1,16 @@
 // The run over a trace: header, room, and then the records, for all sizes at once.
-use crate::engine::Sums;
-use crate::engine::read;
-use crate::lists::LIST_ROOM;
-use crate::tallies::finish;
 use card::places::key_of;
+use counts::tallies::COLUMNS;
+use counts::tallies::finish;
+use engine::lists::LIST_ROOM;
+use engine::reads::Sums;
+use engine::reads::read;
+use engine::rows::stretches_length;
+use pass::answers::Ran;
+use pass::answers::Report;
+use pass::areas::clear_numbers;
+use pass::areas::clear_pairs;
+use terms::LARGEST_SIZE;
 use terms::Refusal;
 use trace::header::Header;
 use trace::header::read_header;
@@ -19,45 +26,20 @@ ghost use Rattle.terms.specs.Ranges.{size};
 ghost use Rattle.terms.specs.Reads.{Read};
 ghost use Rattle.trace.specs.Reading.{Reading};
 ghost use Rattle.trace.specs.Trace.{readsFrom};
-ghost use Rattle.sizes.specs.Outcome.{blocksLength, stretchesLength, countsLength, zeros, fronted};
-ghost use Rattle.sizes.specs.Passing.{answered, counted, TalliedBy};
-ghost use Rattle.sizes.specs.Answers.{ranAnswer, AreasAre, runIn};
-
-pub enum Ran {
-    // The reads, and the peaks of the stretches of all blocks and of one.
-    Done { reads: u64, total: u64, one: u64 },
-    // Why, and the offset of the number at fault.
-    Refused(Refusal, usize),
-}
-
-// What an area held before a run, or of a refused one, is of no use to anyone: it becomes zeros.
-fn clear_numbers(area: &mut [u64])
-    ensures { λ _. ⌜ now (area .exit) ≡ zeros (length (now (area .entry))) ⌝ }
-{
-    let mut i = 0;
-    while i < area.len() {
-        area[i] = 0;
-        i += 1;
-    }
-}
-
-// The same for the stretch area.
-fn clear_pairs(area: &mut [u16])
-    ensures { λ _. ⌜ now (area .exit) ≡ zeros (length (now (area .entry))) ⌝ }
-{
-    let mut i = 0;
-    while i < area.len() {
-        area[i] = 0;
-        i += 1;
-    }
-}
+ghost use Rattle.sizes.specs.Outcome.{blocksLength};
+ghost use Rattle.engine.specs.Rows.{stretchesLength};
+ghost use Rattle.counts.specs.Columns.{countsLength};
+ghost use Rattle.terms.specs.Areas.{zeros, fronted};
+ghost use Rattle.pass.specs.Answers.{ranAnswer};
+ghost use Rattle.sizes.specs.Passing.{Starts, Fitting, Untouched, answerAfter, countsAfter, TalliedBy};
+ghost use Rattle.sizes.specs.Answers.{AreasAre, runIn};
 
 // The tallies of sizes 1 to n become zeros.
 fn clear_counts(counts: &mut [u64], n: usize)
     requires { ⌜ countsLength n ≤ length (now counts) ⌝ }
     ensures { λ _. ⌜ now (counts .exit) ≡ fronted (zeros (countsLength n)) (now (counts .entry)) ⌝ }
 {
-    clear_numbers(&mut counts[..6 * n]);
+    clear_numbers(&mut counts[..COLUMNS * n]);
 }
 
 // The records from a place to the end, each read at all sizes, from areas that no read has touched.
@@ -69,9 +51,8 @@ fn records(
     counts: &mut [u64],
     n: usize,
 ) -> Ran
-    requires { ⌜ (1 ≤ n) × (n ≤ size .largest) × (start ≤ length (now trace))
-        × (now blocks ≡ zeros n) × (now stretches ≡ zeros (stretchesLength n)) × (now counts ≡ zeros (countsLength n)) ⌝ }
-    ensures { λ r. ⌜ (ranAnswer r ≡ answered n (readsFrom (length (now (trace .entry))) (now (trace .entry)) start))
+    requires { ⌜ Starts n start (now trace) × Untouched n (now blocks) (now stretches) (now counts) ⌝ }
+    ensures { λ r. ⌜ (ranAnswer r ≡ answerAfter n (readsFrom (length (now (trace .entry))) (now (trace .entry)) start))
         × TalliedBy n (readsFrom (length (now (trace .entry))) (now (trace .entry)) start) (now (counts .exit)) ⌝ }
 {
     // A list on its way from one row to another; made once, so that it is not set to zero for each read.
@@ -89,6 +70,7 @@ fn records(
                 volume,
                 block,
                 priority,
+                priority_at: _,
                 length,
             } => {
                 let key = key_of(volume, block);
@@ -102,24 +84,20 @@ fn records(
             }
         }
     }
-    Ran::Done {
+    Ran::Done(Report {
         reads,
         total: sums.most as u64,
         one: sums.one as u64,
-    }
+    })
 }
 
 // The tallies become the counts of the records that were read, or zeros where one was refused.
 fn settle(counts: &mut [u64], n: usize, ran: Ran)
-    requires { ⌜ (length (now counts) ≡ countsLength n) × ((x : Reading (List Read)) × (ranAnswer ran ≡ answered n x) × TalliedBy n x (now counts)) ⌝ }
-    ensures { λ _. ⌜ ((x : Reading (List Read)) → ranAnswer ran ≡ answered n x → TalliedBy n x (now (counts .entry)) → now (counts .exit) ≡ counted n x) ⌝ }
+    requires { ⌜ (length (now counts) ≡ countsLength n) × ((x : Reading (List Read)) × (ranAnswer ran ≡ answerAfter n x) × TalliedBy n x (now counts)) ⌝ }
+    ensures { λ _. ⌜ ((x : Reading (List Read)) → ranAnswer ran ≡ answerAfter n x → TalliedBy n x (now (counts .entry)) → now (counts .exit) ≡ countsAfter n x) ⌝ }
 {
     match ran {
-        Ran::Done {
-            reads,
-            total: _,
-            one: _,
-        } => finish(counts, n, reads),
+        Ran::Done(report) => finish(counts, n, report.reads),
         Ran::Refused(_, _) => clear_counts(counts, n),
     }
 }
@@ -133,11 +111,10 @@ fn pass(
     counts: &mut [u64],
     n: usize,
 ) -> Ran
-    requires { ⌜ (1 ≤ n) × (n ≤ size .largest) × (start ≤ length (now trace))
-        × (length (now blocks) ≡ n) × (length (now stretches) ≡ stretchesLength n) × (length (now counts) ≡ countsLength n) ⌝ }
-    ensures { λ r. ⌜ (ranAnswer r ≡ answered n (readsFrom (length (now (trace .entry))) (now (trace .entry)) start))
+    requires { ⌜ Starts n start (now trace) × Fitting n (now blocks) (now stretches) (now counts) ⌝ }
+    ensures { λ r. ⌜ (ranAnswer r ≡ answerAfter n (readsFrom (length (now (trace .entry))) (now (trace .entry)) start))
         × (now (blocks .exit) ≡ zeros n) × (now (stretches .exit) ≡ zeros (stretchesLength n))
-        × (now (counts .exit) ≡ counted n (readsFrom (length (now (trace .entry))) (now (trace .entry)) start)) ⌝ }
+        × (now (counts .exit) ≡ countsAfter n (readsFrom (length (now (trace .entry))) (now (trace .entry)) start)) ⌝ }
 {
     clear_numbers(blocks);
     clear_pairs(stretches);
@@ -147,14 +124,6 @@ fn pass(
     clear_pairs(stretches);
     settle(counts, n, ran);
     ran
-}
-
-// The length of the stretch area for a size.
-fn stretches_length(n: usize) -> usize
-    requires { ⌜ n ≤ size .largest ⌝ }
-    ensures { λ r. ⌜ r ≡ stretchesLength n ⌝ }
-{
-    2 * n * ((n + 1) / 2)
 }
 
 // Whether areas of some lengths are long enough for a size.
@@ -168,7 +137,7 @@ fn is_room(n: usize, blocks: usize, stretches: usize, counts: usize) -> bool
     if stretches < stretches_length(n) {
         return false;
     }
-    6 * n <= counts
+    COLUMNS * n <= counts
 }
 
 // Reads a whole trace. A refusal before the first record leaves the areas untouched; what lies past the lengths that the size asks for stays as it was.
@@ -177,7 +146,7 @@ pub fn run(trace: &[u8], blocks: &mut [u64], stretches: &mut [u16], counts: &mut
     ensures areas { λ r. ⌜ AreasAre (runIn (now (trace .entry)) (now (blocks .entry)) (now (stretches .entry)) (now (counts .entry)) .areas)
         (now (blocks .exit)) (now (stretches .exit)) (now (counts .exit)) ⌝ }
 {
-    match read_header(trace) {
+    match read_header(trace, LARGEST_SIZE as u64) {
         Header::Accepted {
             edition: _,
             size,
@@ -193,7 +162,7 @@ pub fn run(trace: &[u8], blocks: &mut [u64], stretches: &mut [u16], counts: &mut
                 length,
                 &mut blocks[..n],
                 &mut stretches[..end],
-                &mut counts[..6 * n],
+                &mut counts[..COLUMNS * n],
                 n,
             )
         }

@@ -5,7 +5,7 @@
 ghost use Prim.Native.Nat.{_<_, _≤_};
 ghost use lib.ListN.{length};
 use libc::STDOUT_FILENO;
-use sizes::run::Ran;
+use pass::answers::Ran;
 
 fn say(text: &[u8]) {
     io::write_all(STDOUT_FILENO, text);
@@ -78,11 +78,11 @@ fn say_written(area: &[u64], value: u64) {
 
 fn say_answer(answer: Ran) {
     match answer {
-        Ran::Done { reads, total, one } => {
+        Ran::Done(report) => {
             say(b"done");
-            say_number(reads);
-            say_number(total);
-            say_number(one);
+            say_number(report.reads);
+            say_number(report.total);
+            say_number(report.one);
         }
         Ran::Refused(refusal, place) => {
             say(b"refused");

@@ -4,9 +4,10 @@ use mathlib.Core.List.{List}
 use Prim.Native.Nat.{ℕ}
 use lib.Ieee.{Float}
 use lib.ListN.{length}
+use Rattle.terms.specs.Ranges.{size}
 use Rattle.terms.specs.Reads.{Read}
 use Rattle.terms.proofs.Determined.{one-value}
-use Rattle.trace.specs.Reading.{Header, headerAt, recordAt}
+use Rattle.trace.specs.Reading.{Header, headerAt, placedAt}
 use Rattle.trace.specs.Writing.{headerWriting, recordWriting, headerBuffer, recordBuffer}
 use Rattle.card.specs.Counts.{countingOf, countsAfter}
 use Rattle.card.specs.Ratio.{ratioOf}
@@ -30,11 +31,11 @@ lent-determined t left r r′ out last last′ lent lent′ e f = (told-determin
 -- ---- each call
 
 module _ (r r′ : ℕ) (out last last′ : List ℕ) where
-  pub read-header-determined : (trace : List ℕ) → Tells (headerTold (headerAt trace 0)) r out last → Tells (headerTold (headerAt trace 0)) r′ out last′ → (r ≡ r′) × (last ≡ last′)
-  read-header-determined trace = told-determined (headerTold (headerAt trace 0)) r r′ out last last′
+  pub read-header-determined : (trace : List ℕ) → Tells (headerTold (headerAt (size .largest) trace 0)) r out last → Tells (headerTold (headerAt (size .largest) trace 0)) r′ out last′ → (r ≡ r′) × (last ≡ last′)
+  read-header-determined trace = told-determined (headerTold (headerAt (size .largest) trace 0)) r r′ out last last′
 
-  pub read-record-determined : (part : List ℕ) → Tells (recordTold (recordAt part 0)) r out last → Tells (recordTold (recordAt part 0)) r′ out last′ → (r ≡ r′) × (last ≡ last′)
-  read-record-determined part = told-determined (recordTold (recordAt part 0)) r r′ out last last′
+  pub read-record-determined : (part : List ℕ) → Tells (recordTold (placedAt part 0)) r out last → Tells (recordTold (placedAt part 0)) r′ out last′ → (r ≡ r′) × (last ≡ last′)
+  read-record-determined part = told-determined (recordTold (placedAt part 0)) r r′ out last last′
 
   module _ (lent lent′ : List ℕ) where
     -- the writers and their buffer

@@ -1,3 +1,1 @@
-pub mod Tellings
-pub mod StepCases
 pub mod Determined

@@ -8,13 +8,13 @@ use lib.ListN.{length, take, drop}
 use Rattle.terms.specs.declared.Refusal.the-variants.{Room}
 use Rattle.terms.specs.Refusals.{numberOf}
 use Rattle.terms.specs.Ranges.{size}
-use Rattle.terms.specs.Reads.{Read}
 use Rattle.trace.specs.Reading as reading
 use Rattle.trace.specs.Writing as writing
 use Rattle.card.specs.State as state
 use Rattle.card.specs.Counts as counts
 use Rattle.card.specs.Counts.{isHit}
-use Rattle.sizes.specs.Outcome as outcome
+use Rattle.pass.specs.Outcome as outcome
+use Rattle.pass.specs.declared.answers.Report.{Report}
 use Rattle.sheet_text.specs.Sheet.{shown}
 
 pub record Told : Type 0 where
@@ -34,8 +34,8 @@ headerTold (reading.Given h end) = tells 0 (h .edition ∷ h .size ∷ end ∷ [
 headerTold (reading.Refused number place) = tells number (place ∷ [])
 
 -- a record: volume, block, priority and its length; or the place
-abbrev pub recordTold : reading.Reading Read → Told
-recordTold (reading.Given r end) = tells 0 (r .volume ∷ r .block ∷ r .priority ∷ end ∷ [])
+abbrev pub recordTold : reading.Reading reading.Placed → Told
+recordTold (reading.Given r end) = tells 0 (r .read .volume ∷ r .read .block ∷ r .read .priority ∷ end ∷ [])
 recordTold (reading.Refused number place) = tells number (place ∷ [])
 
 -- a header or a record written: its length
@@ -44,8 +44,8 @@ writingTold (writing.Length n) = tells 0 (n ∷ [])
 writingTold (writing.Refused number) = tells number []
 
 -- a run: the reads and the two peaks; or the place
-abbrev pub runTold : outcome.Answer → Told
-runTold (outcome.Done reads total one) = tells 0 (reads ∷ total ∷ one ∷ [])
+abbrev pub runTold : outcome.Answer Report ℕ → Told
+runTold (outcome.Done report) = tells 0 (report .reads ∷ report .total ∷ report .one ∷ [])
 runTold (outcome.Refused number place) = tells number (place ∷ [])
 
 -- a step: the outcome, and 1 for a hit or 0 for a miss

@@ -1,15 +1,17 @@
 // The calls on traces: headers, records, the run and the sheet.
 use crate::told::tell;
 use crate::told::tell_one;
-use sizes::run::Ran;
+use pass::answers::Ran;
+use terms::LARGEST_SIZE;
 use terms::refusal_number;
 use trace::Written;
 use trace::header::Header;
 use trace::record::Record;
 ghost use mathlib.Core.Path.{_≡_};
 ghost use lib.ListN.{length};
+ghost use Rattle.terms.specs.Ranges.{size};
 ghost use Rattle.terms.specs.Reads.{readOf};
-ghost use Rattle.trace.specs.Reading.{headerAt, headerOf, recordAt};
+ghost use Rattle.trace.specs.Reading.{headerAt, headerOf, placedAt};
 ghost use Rattle.trace.specs.Answers.{writtenAnswer};
 ghost use Rattle.trace.specs.Writing.{headerWriting, recordWriting, headerBuffer, recordBuffer};
 ghost use Rattle.sizes.specs.Answers.{areasOf, AreasAre, runIn};
@@ -19,9 +21,9 @@ ghost use Rattle.supharoek.specs.Told.{Tells, headerTold, recordTold, wr
 // Reads a header: edition, size, length; or the place of the refusal.
 #[no_mangle]
 pub extern "C" fn supharoek_read_header(trace: &[u8], out: &mut [u64]) -> u32
-    ensures { λ r. ⌜ Tells (headerTold (headerAt (now (trace .entry)) 0)) r (now (out .entry)) (now (out .exit)) ⌝ }
+    ensures { λ r. ⌜ Tells (headerTold (headerAt (size .largest) (now (trace .entry)) 0)) r (now (out .entry)) (now (out .exit)) ⌝ }
 {
-    match trace::header::read_header(trace) {
+    match trace::header::read_header(trace, LARGEST_SIZE as u64) {
         Header::Accepted {
             edition,
             size,
@@ -41,13 +43,14 @@ pub extern "C" fn supharoek_read_header(trace: &[u8], out: &mut [u64]) -> u32
 // Reads a record from the start of a part of a trace: volume, block, priority, length; or the place of the refusal.
 #[no_mangle]
 pub extern "C" fn supharoek_read_record(part: &[u8], out: &mut [u64]) -> u32
-    ensures { λ r. ⌜ Tells (recordTold (recordAt (now (part .entry)) 0)) r (now (out .entry)) (now (out .exit)) ⌝ }
+    ensures { λ r. ⌜ Tells (recordTold (placedAt (now (part .entry)) 0)) r (now (out .entry)) (now (out .exit)) ⌝ }
 {
     match trace::record::read_record(part) {
         Record::Read {
             volume,
             block,
             priority,
+            priority_at: _,
             length,
         } => {
             let values = [volume, block, priority, length as u64];
@@ -121,8 +124,8 @@ pub extern "C" fn supharoek_run(
         (now (blocks .exit)) (now (stretches .exit)) (now (counts .exit)) ⌝ }
 {
     match sizes::run::run(trace, blocks, stretches, counts) {
-        Ran::Done { reads, total, one } => {
-            let values = [reads, total, one];
+        Ran::Done(report) => {
+            let values = [report.reads, report.total, report.one];
             tell(out, &values);
             0
         }

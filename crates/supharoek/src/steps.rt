@@ -1,8 +1,8 @@
 // The calls for one size: the step, the counts of its outcomes, and the miss ratio.
 use crate::told::tell;
 use crate::told::tell_one;
-use card::counts::Counted;
-use card::counts::is_hit;
+use card::counting::Counted;
+use card::counting::is_hit;
 use card::ratio::MissRatio;
 use card::step::Answer;
 use card::step::Card;
@@ -100,7 +100,7 @@ pub extern "C" fn supharoek_count(outcome: u32, counts: &mut [u64], out: &mut [u
     ensures told { λ r. ⌜ Tells (countTold (countingOf outcome (now (counts .entry)))) r (now (out .entry)) (now (out .exit)) ⌝ }
     ensures counts { λ r. ⌜ now (counts .exit) ≡ countsAfter outcome (now (counts .entry)) ⌝ }
 {
-    match card::counts::add_outcome(outcome, counts) {
+    match card::counting::add_outcome(outcome, counts) {
         Counted::Added(n) => {
             tell_one(out, n);
             0

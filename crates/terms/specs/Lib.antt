@@ -1,3 +1,4 @@
 pub mod Refusals
 pub mod Ranges
 pub mod Reads
+pub mod Areas

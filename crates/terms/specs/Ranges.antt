@@ -19,9 +19,13 @@ inRange range value = leb (range .least) value && leb value (range .largest)
 unfoldable pub edition : Range
 edition = record { least = 1; largest = 1; refusal = Edition }
 
--- the size of a card
+-- the size of a card, from 1 to a largest one
+abbrev pub sizeUpTo : ℕ → Range
+sizeUpTo most = record { least = 1; largest = most; refusal = Size }
+
+-- the size of a card, up to the library's largest
 unfoldable pub size : Range
-size = record { least = 1; largest = 127; refusal = Size }
+size = sizeUpTo 127
 
 -- the volume of a block
 unfoldable pub volume : Range

@@ -3,7 +3,9 @@ ghost use mathlib.Core.Path.{_≡_};
 ghost use mathlib.Core.Bool.{_&&_};
 ghost use lib.Dec.{leb};
 ghost use Rattle.terms.specs.Refusals.{numberOf};
-ghost use Rattle.terms.specs.Ranges.{inRange, edition, size, volume, priority};
+ghost use Rattle.terms.specs.Ranges.{inRange, edition, sizeUpTo, volume, priority};
+
+pub mod numbers;
 
 // Why a call refuses its input.
 pub enum Refusal {
@@ -62,10 +64,10 @@ pub fn is_edition(value: u64) -> bool
     within(EDITION, value, EDITION)
 }
 
-pub fn is_size(value: u64) -> bool
-    ensures { λ r. ⌜ r ≡ inRange size value ⌝ }
+pub fn is_size(value: u64, largest: u64) -> bool
+    ensures { λ r. ⌜ r ≡ inRange (sizeUpTo largest) value ⌝ }
 {
-    within(1, value, LARGEST_SIZE as u64)
+    within(1, value, largest)
 }
 
 pub fn is_volume(value: u64) -> bool

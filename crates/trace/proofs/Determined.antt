@@ -15,7 +15,7 @@ use Rattle.trace.specs.declared.record.Record.{Record}
 use Rattle.trace.specs.declared.record.Record.the-variants as the-record
 use Rattle.trace.specs.declared.Written.{Written}
 use Rattle.trace.specs.declared.Written.the-variants as the-written
-use Rattle.terms.specs.Reads.{Read, readOf}
+use Rattle.terms.specs.Reads.{readOf}
 use Rattle.trace.specs.Number as number
 use Rattle.trace.specs.Reading as reading
 use Rattle.trace.specs.Writing as writing
@@ -40,14 +40,15 @@ one-header (the-header.Refused r p) (the-header.Accepted f m k) q = cc
 one-header (the-header.Refused r p) (the-header.Refused s o) q = ap₂ the-header.Refused (one-refusal r s (cc)) (cc)
 
 one-record : (x y : Record) → recordAnswer x ≡ recordAnswer y → x ≡ y
-one-record (the-record.Read v b p n) (the-record.Read w c q m) e =
-    let h : readOf v b p ≡ readOf w c q = cc in
-    let volumes : v ≡ w = ap (λ (x : Read). x .volume) h in
-    let blocks : b ≡ c = ap (λ (x : Read). x .block) h in
-    let priorities : p ≡ q = ap (λ (x : Read). x .priority) h in
+one-record (the-record.Read v b p i n) (the-record.Read w c q j m) e =
+    let h : reading.placedOf (readOf v b p) i ≡ reading.placedOf (readOf w c q) j = cc in
+    let volumes : v ≡ w = ap (λ (x : reading.Placed). x .read .volume) h in
+    let blocks : b ≡ c = ap (λ (x : reading.Placed). x .read .block) h in
+    let priorities : p ≡ q = ap (λ (x : reading.Placed). x .read .priority) h in
+    let places : i ≡ j = ap (λ (x : reading.Placed). x .priorityAt) h in
     cc
-one-record (the-record.Read v b p n) (the-record.Refused r o) e = cc
-one-record (the-record.Refused r o) (the-record.Read w c q m) e = cc
+one-record (the-record.Read v b p i n) (the-record.Refused r o) e = cc
+one-record (the-record.Refused r o) (the-record.Read w c q j m) e = cc
 one-record (the-record.Refused r o) (the-record.Refused s i) e = ap₂ the-record.Refused (one-refusal r s (cc)) (cc)
 
 one-written : (x y : Written) → writtenAnswer x ≡ writtenAnswer y → x ≡ y
@@ -66,10 +67,11 @@ pub fault-determined : (answer : Number) (x y : Refusal)
     → numberOf x ≡ number.faultOf (numberAnswer answer) → numberOf y ≡ number.faultOf (numberAnswer answer) → x ≡ y
 fault-determined answer x y e f = one-refusal x y (one-value e f)
 
-pub read-header-determined : (s : List ℕ) (x y : Header) → headerAnswer x ≡ reading.headerAt s 0 → headerAnswer y ≡ reading.headerAt s 0 → x ≡ y
-read-header-determined s x y e f = one-header x y (one-value e f)
+pub read-header-determined : (largest : ℕ) (s : List ℕ) (x y : Header)
+    → headerAnswer x ≡ reading.headerAt largest s 0 → headerAnswer y ≡ reading.headerAt largest s 0 → x ≡ y
+read-header-determined largest s x y e f = one-header x y (one-value e f)
 
-pub read-record-determined : (s : List ℕ) (x y : Record) → recordAnswer x ≡ reading.recordAt s 0 → recordAnswer y ≡ reading.recordAt s 0 → x ≡ y
+pub read-record-determined : (s : List ℕ) (x y : Record) → recordAnswer x ≡ reading.placedAt s 0 → recordAnswer y ≡ reading.placedAt s 0 → x ≡ y
 read-record-determined s x y e f = one-record x y (one-value e f)
 
 -- the rest: its bytes and its pointer

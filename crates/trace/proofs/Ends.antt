@@ -1,19 +1,13 @@
 -- What is read ends within the bytes, and a refusal's place lies there.
-use mathlib.Core.Path.{_≡_}
 use mathlib.Core.List.{List}
 use mathlib.Core.Bool.{Bool, true, false, cond}
 use Prim.Native.Nat.{ℕ, _+_, _≤_, _<_}
 use native.Mathlib.Omega.{arith}
 use lib.ListN.{length}
-use Rattle.terms.specs.Ranges.{Range, inRange, edition, size, volume, block, priority}
-use Rattle.terms.specs.declared.Refusal.{Refusal}
-use Rattle.trace.specs.declared.record.Record.{Record}
-use Rattle.trace.specs.declared.record.Record.the-variants as the-record
-use Rattle.trace.specs.Answers.{recordAnswer}
+use Rattle.terms.specs.Ranges.{Range, inRange, edition, sizeUpTo, volume, block, priority}
 use Rattle.trace.specs.Number.{Numeral, Value, Fault, numberAt}
-use Rattle.terms.specs.Reads.{Read}
-use Rattle.trace.specs.Reading.{Reading, Given, Refused, tested, field, headerAt, recordAt, restStart}
-use Rattle.trace.proofs.Numbers.{OfValue}
+use Rattle.trace.specs.Reading.{Reading, Given, Refused, tested, andThen, field, headerAt, placedAt, recordAt}
+use Rattle.trace.proofs.number.Laws.{OfValue}
 use Rattle.trace.proofs.Fields.{NumberIn, number-in}
 
 module _ {A : Type 0} where
@@ -34,32 +28,27 @@ module _ {A : Type 0} where
       go (Value v n) b = within-cond from (length s) (inRange range v) (next v (at + n)) _ (f v (at + n) (omega arith) (omega arith)) (h, g)
       go (Fault number) b = (h, g)
 
-pub header-within : (s : List ℕ) (at : ℕ) → at ≤ length s → Within at (length s) (headerAt s at)
+module _ {A B : Type 0} where
+  within-then : (from room : ℕ) (r : Reading A) (next : A → ℕ → Reading B) → Within from room r
+      → ((x : A) (end : ℕ) → from < end → end ≤ room → Within from room (next x end)) → Within from room (andThen r next)
+  within-then from room (Given x end) next h f = f x end (h .0) (h .1)
+  within-then from room (Refused number place) next h f = h
+
+pub header-within : (largest : ℕ) (s : List ℕ) (at : ℕ) → at ≤ length s → Within at (length s) (headerAt largest s at)
 unfolding headerAt
-header-within s at h =
+header-within largest s at h =
     within-field edition s at at _ (omega arith) h
-    (λ e at₁ l₁ h₁. within-field size s at at₁ _ (omega arith) h₁
+    (λ e at₁ l₁ h₁. within-field (sizeUpTo largest) s at at₁ _ (omega arith) h₁
     (λ n at₂ l₂ h₂. omega arith))
 
-pub record-within : (s : List ℕ) (at : ℕ) → at ≤ length s → Within at (length s) (recordAt s at)
-unfolding recordAt
-record-within s at h =
+placed-within : (s : List ℕ) (at : ℕ) → at ≤ length s → Within at (length s) (placedAt s at)
+unfolding placedAt
+placed-within s at h =
     within-field volume s at at _ (omega arith) h
     (λ v at₁ l₁ h₁. within-field block s at at₁ _ (omega arith) h₁
     (λ b at₂ l₂ h₂. within-field priority s at at₂ _ (omega arith) h₂
     (λ p at₃ l₃ h₃. omega arith)))
 
-rest-within : (from room : ℕ) (r : Reading Read) → from ≤ room → Within from room r → restStart r ≤ room
-rest-within from room (Given r end) h g = g .1
-rest-within from room (Refused number place) h g = omega arith
-
-module _ (s : List ℕ) (a : Record) (e : recordAnswer a ≡ recordAt s 0) where
-  pub rest-refused : (refusal : Refusal) (place : ℕ) → a ≡ the-record.Refused refusal place → restStart (recordAt s 0) ≡ 0
-  rest-refused refusal place g = rw (← e, g)
-
-  pub rest-after : (v b p n : ℕ) → a ≡ the-record.Read v b p n → restStart (recordAt s 0) ≡ n
-  rest-after v b p n g = rw (← e, g)
-
--- the rest starts within the part
-pub rest-in : (s : List ℕ) → restStart (recordAt s 0) ≤ length s
-rest-in s = rest-within 0 (length s) (recordAt s 0) (omega arith) (record-within s 0 (omega arith))
+pub record-within : (s : List ℕ) (at : ℕ) → at ≤ length s → Within at (length s) (recordAt s at)
+unfolding recordAt
+record-within s at h = within-then at (length s) (placedAt s at) _ (placed-within s at h) (λ r end l g. (l, g))

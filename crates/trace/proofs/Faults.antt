@@ -1,5 +1,5 @@
 -- The refusals of a trace are those of the table that have a place in it, numbers 1 to 6.
-use mathlib.Core.Path.{_≡_, refl, subst}
+use mathlib.Core.Path.{_≡_, subst}
 use mathlib.Core.List.{List, [], _∷_}
 use mathlib.Core.Bool.{Bool, true, false, cond}
 use Prim.Native.Nat.{ℕ, zero, suc, _+_, _≤_}
@@ -7,11 +7,11 @@ use native.Mathlib.Omega.{arith}
 use lib.ListN.{length, drop}
 use lib.Dec.{leb, ltb}
 use Rattle.terms.specs.Refusals.{numberOf}
-use Rattle.terms.specs.Ranges.{Range, inRange, edition, size, volume, block, priority}
-use Rattle.terms.specs.Reads.{Read}
+use Rattle.terms.specs.Ranges.{Range, inRange, edition, sizeUpTo, volume, block, priority}
 use Rattle.trace.specs.Number.{Numeral, Value, Fault, after, numeral, bytesBefore, topByte, numberAt}
-use Rattle.trace.specs.Reading.{Reading, Given, Refused, tested, field, headerAt, recordAt}
-use Rattle.trace.specs.Trace.{andThen, readsFrom, Trace, traceOf}
+use Rattle.trace.specs.Reading.{Found, Reading, Given, Refused, andThen, tested, field, headerAt, placedAt, recordAt}
+use Rattle.trace.specs.Events.{eventsFrom}
+use Rattle.trace.specs.Trace.{atEnd, readsFrom, traceOf}
 
 -- one of the first six
 abbrev pub OfTrace : ℕ → Type 0
@@ -41,15 +41,29 @@ faulty-numeral top (suc left) (byte ∷ s) = faulty-cond (ltb byte 128) (Value b
 
 -- ---- what is read
 
-module _ {A : Type 0} where
-  abbrev Refusing : Reading A → Type 0
+module _ {P L A : Type 0} where
+  abbrev Refusing : Found P L A → Type 0
   Refusing (Given x end) = Unit
   Refusing (Refused number place) = OfTrace number
 
-  refusing-cond : (t : Bool) (x y : Reading A) → Refusing x → Refusing y → Refusing (cond t x y)
+  refusing-cond : (t : Bool) (x y : Found P L A) → Refusing x → Refusing y → Refusing (cond t x y)
   refusing-cond true x y f g = f
   refusing-cond false x y f g = g
 
+module _ {P L A B : Type 0} where
+  refusing-then : (x : Found P L A) (next : A → P → Found P L B) → Refusing x → ((y : A) (end : P) → Refusing (next y end)) → Refusing (andThen x next)
+  refusing-then (Given y end) next f g = g y end
+  refusing-then (Refused number place) next f g = f
+
+module _ {P L E : Type 0} (ended : P → Bool) (next : P → Found P L E) (f : (at : P) → Refusing (next at)) where
+  refusing-events : (steps : ℕ) (at : P) → Refusing (eventsFrom ended next steps at)
+  refusing-events zero at = tt
+  refusing-events (suc steps) at =
+      refusing-cond (ended at) (Given [] at) _ tt
+      (refusing-then (next at) _ (f at)
+      (λ e at₁. refusing-then (eventsFrom ended next steps at₁) _ (refusing-events steps at₁) (λ es at₂. tt)))
+
+module _ {A : Type 0} where
   refusing-field : (range : Range) (s : List ℕ) (at : ℕ) (next : ℕ → ℕ → Reading A) → OfTrace (numberOf (range .refusal))
       → ((v end : ℕ) → Refusing (next v end)) → Refusing (field range s at next)
   refusing-field range s at next own f = go (numberAt s at) (faulty-numeral topByte bytesBefore (drop at s))
@@ -58,33 +72,28 @@ module _ {A : Type 0} where
       go (Value v n) b = refusing-cond (inRange range v) (next v (at + n)) _ (f v (at + n)) own
       go (Fault number) b = b
 
-module _ {A B : Type 0} where
-  refusing-then : (x : Reading A) (next : A → ℕ → Reading B) → Refusing x → ((y : A) (end : ℕ) → Refusing (next y end)) → Refusing (andThen x next)
-  refusing-then (Given y end) next f g = g y end
-  refusing-then (Refused number place) next f g = f
+header-refusing : (largest : ℕ) (s : List ℕ) (at : ℕ) → Refusing (headerAt largest s at)
+unfolding headerAt edition
+header-refusing largest s at = refusing-field edition s at _ (omega arith) (λ e at₁. refusing-field (sizeUpTo largest) s at₁ _ (omega arith) (λ n at₂. tt))
 
-header-refusing : (s : List ℕ) (at : ℕ) → Refusing (headerAt s at)
-unfolding headerAt edition size
-header-refusing s at = refusing-field edition s at _ (omega arith) (λ e at₁. refusing-field size s at₁ _ (omega arith) (λ n at₂. tt))
-
-record-refusing : (s : List ℕ) (at : ℕ) → Refusing (recordAt s at)
-unfolding recordAt volume block priority
-record-refusing s at =
+placed-refusing : (s : List ℕ) (at : ℕ) → Refusing (placedAt s at)
+unfolding placedAt volume block priority
+placed-refusing s at =
     refusing-field volume s at _ (omega arith)
     (λ v at₁. refusing-field block s at₁ _ (omega arith)
     (λ b at₂. refusing-field priority s at₂ _ (omega arith) (λ p at₃. tt)))
 
+record-refusing : (s : List ℕ) (at : ℕ) → Refusing (recordAt s at)
+unfolding recordAt
+record-refusing s at = refusing-then (placedAt s at) _ (placed-refusing s at) (λ r end. tt)
+
 reads-refusing : (steps : ℕ) (s : List ℕ) (at : ℕ) → Refusing (readsFrom steps s at)
 unfolding readsFrom
-reads-refusing zero s at = tt
-reads-refusing (suc steps) s at =
-    refusing-cond (leb (length s) at) (Given [] at) _ tt
-    (refusing-then (recordAt s at) _ (record-refusing s at)
-    (λ r at₁. refusing-then (readsFrom steps s at₁) _ (reads-refusing steps s at₁) (λ rs at₂. tt)))
+reads-refusing steps s at = refusing-events (atEnd s) (recordAt s) (record-refusing s) steps at
 
-trace-refusing : (s : List ℕ) → Refusing (traceOf s)
+trace-refusing : (largest : ℕ) (s : List ℕ) → Refusing (traceOf largest s)
 unfolding traceOf
-trace-refusing s = refusing-then (headerAt s 0) _ (header-refusing s 0) (λ h at. refusing-then (readsFrom (length s) s at) _ (reads-refusing (length s) s at) (λ rs at₁. tt))
+trace-refusing largest s = refusing-then (headerAt largest s 0) _ (header-refusing largest s 0) (λ h at. refusing-then (readsFrom (length s) s at) _ (reads-refusing (length s) s at) (λ rs at₁. tt))
 
-pub trace-refused : (s : List ℕ) (number place : ℕ) → traceOf s ≡ Refused number place → OfTrace number
-trace-refused s number place e = subst Refusing e (trace-refusing s)
+pub trace-refused : (largest : ℕ) (s : List ℕ) (number place : ℕ) → traceOf largest s ≡ Refused number place → OfTrace number
+trace-refused largest s number place e = subst Refusing e (trace-refusing largest s)

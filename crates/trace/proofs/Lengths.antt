@@ -7,14 +7,14 @@ use native.Mathlib.Omega.{arith}
 use lib.ListN.{length}
 use lib.Dec.{ltb}
 use borrow.Author.Tests.{ltb-false, le-ltb}
-use Rattle.terms.specs.Ranges.{Range, inRange, edition, size, volume, block, priority}
+use Rattle.terms.specs.Ranges.{Range, inRange, edition, sizeUpTo, size, volume, block, priority}
 use Rattle.terms.specs.Reads.{Read, readOf, ReadOk}
 use Rattle.trace.specs.Number.{bytesBefore}
-use Rattle.trace.specs.Reading.{Given, Header, headerOf, headerAt, recordAt}
+use Rattle.trace.specs.Reading.{Given, Header, headerOf, headerAt, placedAt, recordAt}
 use Rattle.trace.specs.Spelling.{spell, spelling, spellings, headerValues, readValues}
 use Rattle.terms.proofs.Ranges.{bounds}
-use Rattle.trace.proofs.Spellings.{spell-short, header-values-length, read-values-length}
-use Rattle.trace.proofs.OneSpelling.{number-long, Gives, gives-field, HeaderOk}
+use Rattle.trace.proofs.spelling.Laws.{spell-short, header-values-length, read-values-length}
+use Rattle.trace.proofs.OneSpelling.{number-long, Gives, gives-field, gives-read, HeaderOk}
 
 -- ---- a number
 
@@ -40,9 +40,9 @@ edition-takes : (v : ℕ) → inRange edition v ≡ true → (1 ≤ length (spel
 unfolding edition spell
 edition-takes = takes edition
 
-size-takes : (v : ℕ) → inRange size v ≡ true → (1 ≤ length (spelling v)) × (length (spelling v) ≤ 1)
+size-takes : (largest v : ℕ) → largest ≤ size .largest → inRange (sizeUpTo largest) v ≡ true → (1 ≤ length (spelling v)) × (length (spelling v) ≤ 1)
 unfolding size spell
-size-takes = takes size
+size-takes largest v h e = omega (arith, takes (sizeUpTo largest) v e, spell-rises bytesBefore largest (size .largest) h)
 
 volume-takes : (v : ℕ) → inRange volume v ≡ true → (1 ≤ length (spelling v)) × (length (spelling v) ≤ 3)
 unfolding volume spell
@@ -58,8 +58,9 @@ priority-takes = takes priority
 
 -- ---- what is spelled
 
-pub header-spelling-length : (h : Header) → HeaderOk h → length (spellings (headerValues h)) ≡ 2
-header-spelling-length h ok = omega (arith, header-values-length h, edition-takes (h .edition) (ok .0), size-takes (h .size) (ok .1))
+pub header-spelling-length : (largest : ℕ) (h : Header) → largest ≤ size .largest → HeaderOk largest h → length (spellings (headerValues h)) ≡ 2
+header-spelling-length largest h low ok =
+    omega (arith, header-values-length h, edition-takes (h .edition) (ok .0), size-takes largest (h .size) low (ok .1))
 
 pub record-spelling-length : (r : Read) → ReadOk r → (3 ≤ length (spellings (readValues r))) × (length (spellings (readValues r)) ≤ 10)
 record-spelling-length r ok =
@@ -68,26 +69,27 @@ record-spelling-length r ok =
 -- ---- what is read
 
 -- its numbers are in their ranges, and it is as long as its spelling
-pub header-given : (s : List ℕ) (at : ℕ) → Gives (λ h end. HeaderOk h × (end ≡ at + length (spellings (headerValues h)))) (headerAt s at)
+pub header-given : (largest : ℕ) (s : List ℕ) (at : ℕ) → Gives (λ h end. HeaderOk largest h × (end ≡ at + length (spellings (headerValues h)))) (headerAt largest s at)
 unfolding headerAt
-header-given s at =
+header-given largest s at =
     gives-field _ edition s at _
-    (λ e n₁ e₁ r₁. gives-field _ size s (at + n₁) _
+    (λ e n₁ e₁ r₁. gives-field _ (sizeUpTo largest) s (at + n₁) _
     (λ n n₂ e₂ r₂. ((r₁, r₂), omega (arith, header-values-length (headerOf e n), number-long s at e n₁ e₁, number-long s (at + n₁) n n₂ e₂))))
 
 pub record-given : (s : List ℕ) (at : ℕ) → Gives (λ r end. ReadOk r × (end ≡ at + length (spellings (readValues r)))) (recordAt s at)
-unfolding recordAt
+unfolding placedAt
 record-given s at =
-    gives-field _ volume s at _
+    gives-read _ s at
+    (gives-field _ volume s at _
     (λ v n₁ e₁ r₁. gives-field _ block s (at + n₁) _
     (λ b n₂ e₂ r₂. gives-field _ priority s (at + n₁ + n₂) _
-    (λ p n₃ e₃ r₃. ((r₁, r₂, r₃), omega (arith, read-values-length (readOf v b p), number-long s at v n₁ e₁, number-long s (at + n₁) b n₂ e₂, number-long s (at + n₁ + n₂) p n₃ e₃)))))
+    (λ p n₃ e₃ r₃. ((r₁, r₂, r₃), omega (arith, read-values-length (readOf v b p), number-long s at v n₁ e₁, number-long s (at + n₁) b n₂ e₂, number-long s (at + n₁ + n₂) p n₃ e₃))))))
 
 module _ (s : List ℕ) (at : ℕ) where
-  pub header-length : (h : Header) (end : ℕ) → headerAt s at ≡ Given h end → end ≡ at + 2
-  header-length h end e =
-      let given = subst (Gives _) e (header-given s at) in
-      omega (arith, given .1, header-spelling-length h (given .0))
+  pub header-length : (largest : ℕ) (h : Header) (end : ℕ) → largest ≤ size .largest → headerAt largest s at ≡ Given h end → end ≡ at + 2
+  header-length largest h end low e =
+      let given = subst (Gives _) e (header-given largest s at) in
+      omega (arith, given .1, header-spelling-length largest h low (given .0))
 
   pub record-length : (r : Read) (end : ℕ) → recordAt s at ≡ Given r end → (at + 3 ≤ end) × (end ≤ at + 10)
   record-length r end e =

@@ -1,14 +1,9 @@
-pub mod Numbers
-pub mod NumberCases
 pub mod Fields
-pub mod Readings
-pub mod Spellings
-pub mod Puts
-pub mod PutNumbers
-pub mod Writings
+pub mod Ranged
 pub mod Ends
 pub mod OneSpelling
 pub mod Lengths
+pub mod Parts
 pub mod RoundTrip
 pub mod WholeTrace
 pub mod Determined

@@ -10,16 +10,16 @@ use lib.ListN.{length, take, drop, take-append-drop}
 use lib.Seq.{getD-drop, drop-drop}
 use lib.Dec.{ltb, leb}
 use borrow.Author.Tests.{le-ltb, ltb-true, ltb-false}
-use Rattle.terms.specs.Ranges.{Range, inRange, edition, size, volume, block, priority}
+use Rattle.terms.specs.Ranges.{Range, inRange, edition, sizeUpTo, volume, block, priority}
 use Rattle.trace.specs.Number.{Numeral, Value, Fault, after, numeral, numberAt, topByte, bytesBefore}
-use Rattle.terms.specs.Reads.{ReadOk}
-use Rattle.trace.specs.Reading.{Reading, Given, Refused, tested, field, Header, headerAt, recordAt}
+use Rattle.terms.specs.Reads.{Read, ReadOk}
+use Rattle.trace.specs.Reading.{Found, Reading, Given, Refused, andThen, tested, field, Header, headerAt, Placed, placedAt, recordAt}
 use Rattle.trace.specs.Spelling.{spell, spelling, spellings, headerValues, readValues, Bytes}
 use Rattle.terms.specs.declared.Refusal.the-variants.{Form}
 use Rattle.terms.specs.Refusals.{numberOf}
-use Rattle.trace.proofs.Numbers.{OfValue, holds-cond, holds-after}
+use Rattle.trace.proofs.number.Laws.{OfValue, holds-cond, holds-after}
 use Rattle.trace.proofs.Fields.{NumberIn, number-in}
-use Rattle.trace.proofs.Spellings.{spell-low, length-cons}
+use Rattle.trace.proofs.spelling.Laws.{spell-low, length-cons}
 
 -- ---- a number
 
@@ -100,16 +100,23 @@ module _ (s : List ℕ) (y : Bytes s) (at : ℕ) where
 
 -- ---- headers and records
 
+module _ {P L A : Type 0} where
+  -- it holds of what was read and the position after it, if that is the answer
+  abbrev pub Gives : (A → P → Type 0) → Found P L A → Type 0
+  Gives Q (Given x end) = Q x end
+  Gives Q (Refused number place) = Unit
+
+  pub gives-cond : (Q : A → P → Type 0) (t : Bool) (x y : Found P L A) → (t ≡ true → Gives Q x) → (t ≡ false → Gives Q y) → Gives Q (cond t x y)
+  gives-cond Q true x y f g = f refl
+  gives-cond Q false x y f g = g refl
+
+module _ {P L A B : Type 0} where
+  pub gives-then : (Q : A → P → Type 0) (R : B → P → Type 0) (r : Found P L A) (next : A → P → Found P L B)
+      → Gives Q r → ((x : A) (end : P) → Q x end → Gives R (next x end)) → Gives R (andThen r next)
+  gives-then Q R (Given x end) next h f = f x end h
+  gives-then Q R (Refused number place) next h f = tt
+
 module _ {A : Type 0} where
-  -- it holds of what was read and the place after it, if that is the answer
-  abbrev pub Gives : (A → ℕ → Type 0) → Reading A → Type 0
-  Gives P (Given x end) = P x end
-  Gives P (Refused number place) = Unit
-
-  pub gives-cond : (P : A → ℕ → Type 0) (t : Bool) (x y : Reading A) → (t ≡ true → Gives P x) → (t ≡ false → Gives P y) → Gives P (cond t x y)
-  gives-cond P true x y f g = f refl
-  gives-cond P false x y f g = g refl
-
   pub gives-field : (P : A → ℕ → Type 0) (range : Range) (s : List ℕ) (at : ℕ) (next : ℕ → ℕ → Reading A)
       → ((v n : ℕ) → numberAt s at ≡ Value v n → inRange range v ≡ true → Gives P (next v (at + n))) → Gives P (field range s at next)
   gives-field P range s at next f = go (numberAt s at) refl
@@ -118,24 +125,30 @@ module _ {A : Type 0} where
       go (Value v n) e = gives-cond P (inRange range v) (next v (at + n)) _ (f v n e) (λ t. tt)
       go (Fault number) e = tt
 
--- the fields are in their ranges
-abbrev pub HeaderOk : Header → Type 0
-HeaderOk h = (inRange edition (h .edition) ≡ true) × (inRange size (h .size) ≡ true)
+-- what holds of a read wherever its priority stands
+pub gives-read : (P : Read → ℕ → Type 0) (s : List ℕ) (at : ℕ) → Gives (λ r end. P (r .read) end) (placedAt s at) → Gives P (recordAt s at)
+unfolding recordAt
+gives-read P s at h = gives-then (λ (r : Placed) end. P (r .read) end) P (placedAt s at) _ h (λ r end p. p)
 
-pub header-spelled : (s : List ℕ) → Bytes s → (at : ℕ) → Gives (λ h end. Spells s at end (headerValues h) × HeaderOk h) (headerAt s at)
+-- the fields are in their ranges, the size no larger than the largest
+abbrev pub HeaderOk : (largest : ℕ) → Header → Type 0
+HeaderOk largest h = (inRange edition (h .edition) ≡ true) × (inRange (sizeUpTo largest) (h .size) ≡ true)
+
+pub header-spelled : (largest : ℕ) (s : List ℕ) → Bytes s → (at : ℕ) → Gives (λ h end. Spells s at end (headerValues h) × HeaderOk largest h) (headerAt largest s at)
 unfolding headerAt
-header-spelled s y at =
+header-spelled largest s y at =
     gives-field _ edition s at _
-    (λ e n₁ e₁ r₁. gives-field _ size s (at + n₁) _
+    (λ e n₁ e₁ r₁. gives-field _ (sizeUpTo largest) s (at + n₁) _
     (λ n n₂ e₂ r₂. (spells-more s y at e n₁ (at + n₁ + n₂) (n ∷ []) e₁ (spells-more s y (at + n₁) n n₂ (at + n₁ + n₂) [] e₂ (spells-none s (at + n₁ + n₂))), (r₁, r₂))))
 
 pub record-spelled : (s : List ℕ) → Bytes s → (at : ℕ) → Gives (λ r end. Spells s at end (readValues r) × ReadOk r) (recordAt s at)
-unfolding recordAt
+unfolding placedAt
 record-spelled s y at =
-    gives-field _ volume s at _
+    gives-read _ s at
+    (gives-field _ volume s at _
     (λ v n₁ e₁ r₁. gives-field _ block s (at + n₁) _
     (λ b n₂ e₂ r₂. gives-field _ priority s (at + n₁ + n₂) _
     (λ p n₃ e₃ r₃. (
       spells-more s y at v n₁ (at + n₁ + n₂ + n₃) (b ∷ p ∷ []) e₁ (spells-more s y (at + n₁) b n₂ (at + n₁ + n₂ + n₃) (p ∷ []) e₂ (spells-more s y (at + n₁ + n₂) p n₃ (at + n₁ + n₂ + n₃) [] e₃ (spells-none s (at + n₁ + n₂ + n₃)))),
       (r₁, r₂, r₃),
-    ))))
+    )))))

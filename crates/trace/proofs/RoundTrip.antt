@@ -9,16 +9,16 @@ use lib.ListN.{length, take, drop}
 use lib.Seq.{drop-drop, drop-append-seam, drop-at, length-take-le}
 use lib.Dec.{ltb, leb}
 use borrow.Author.Tests.{le-ltb, le-leb, leb-true, ltb-false}
-use Rattle.terms.specs.Ranges.{Range, inRange, edition, size, volume, block, priority}
+use Rattle.terms.specs.Ranges.{Range, inRange, edition, sizeUpTo, size, volume, block, priority}
 use Rattle.trace.specs.Number.{Value, numeral, numberAt, topByte, bytesBefore}
 use Rattle.terms.specs.Reads.{Read, ReadOk}
-use Rattle.trace.specs.Reading.{Reading, Given, field, Header, headerAt, recordAt}
+use Rattle.trace.specs.Reading.{Reading, Given, field, Header, headerAt, placedOf, placedAt, recordAt}
 use Rattle.trace.specs.Spelling.{spell, spelling, spellings, headerValues, readValues}
 use Rattle.trace.specs.Writing.{Writing, Length, Refused, ranged, spaced, put, headerWriting, recordWriting}
 use Rattle.trace.specs.Bounds.{limit, numberLimit}
-use Rattle.trace.proofs.Numbers.{after-value}
-use Rattle.trace.proofs.Spellings.{header-values-length, read-values-length}
-use Rattle.trace.proofs.Writings.{in-range-low, ranges-low}
+use Rattle.trace.proofs.number.Laws.{after-value}
+use Rattle.trace.proofs.spelling.Laws.{header-values-length, read-values-length}
+use Rattle.trace.proofs.Ranged.{in-range-low, ranges-low}
 use Rattle.trace.proofs.OneSpelling.{HeaderOk}
 
 -- ---- a number
@@ -63,25 +63,35 @@ module _ (s : List ℕ) (at v : ℕ) (vs rest : List ℕ) (e : drop at s ≡ spe
 
 -- ---- headers and records
 
-pub header-back : (s : List ℕ) (at : ℕ) (h : Header) (rest : List ℕ) → HeaderOk h → drop at s ≡ spellings (headerValues h) ++ rest
-    → headerAt s at ≡ Given h (at + length (spellings (headerValues h)))
+-- at any largest size that has a spelling
+pub header-back : (largest : ℕ) (s : List ℕ) (at : ℕ) (h : Header) (rest : List ℕ) → largest < numberLimit → HeaderOk largest h
+    → drop at s ≡ spellings (headerValues h) ++ rest → headerAt largest s at ≡ Given h (at + length (spellings (headerValues h)))
 unfolding headerAt
-header-back s at h rest ok e =
+header-back largest s at h rest low ok e =
     let e₁ = rest-spelled s at (h .edition) (h .size ∷ []) rest e in
     field-back s at (h .edition) (h .size ∷ []) rest e edition _ (ranges-low .0) (ok .0)
-    ∙ field-back s (at + length (spelling (h .edition))) (h .size) [] rest e₁ size _ (ranges-low .1) (ok .1)
+    ∙ field-back s (at + length (spelling (h .edition))) (h .size) [] rest e₁ (sizeUpTo largest) _ low (ok .1)
     ∙ ap (Given h) (omega (arith, header-values-length h))
 
-pub record-back : (s : List ℕ) (at : ℕ) (r : Read) (rest : List ℕ) → ReadOk r → drop at s ≡ spellings (readValues r) ++ rest
-    → recordAt s at ≡ Given r (at + length (spellings (readValues r)))
-unfolding recordAt
-record-back s at r rest ok e =
+-- where the priority of a read stands whose record begins at a place
+abbrev pub priorityPlace : Read → ℕ → ℕ
+priorityPlace r at = at + length (spelling (r .volume)) + length (spelling (r .block))
+
+pub placed-back : (s : List ℕ) (at : ℕ) (r : Read) (rest : List ℕ) → ReadOk r → drop at s ≡ spellings (readValues r) ++ rest
+    → placedAt s at ≡ Given (placedOf r (priorityPlace r at)) (at + length (spellings (readValues r)))
+unfolding placedAt
+placed-back s at r rest ok e =
     let e₁ = rest-spelled s at (r .volume) (r .block ∷ r .priority ∷ []) rest e in
     let e₂ = rest-spelled s (at + length (spelling (r .volume))) (r .block) (r .priority ∷ []) rest e₁ in
     field-back s at (r .volume) (r .block ∷ r .priority ∷ []) rest e volume _ (ranges-low .2) (ok .0)
     ∙ field-back s (at + length (spelling (r .volume))) (r .block) (r .priority ∷ []) rest e₁ block _ (ranges-low .3) (ok .1)
-    ∙ field-back s (at + length (spelling (r .volume)) + length (spelling (r .block))) (r .priority) [] rest e₂ priority _ (ranges-low .4) (ok .2)
-    ∙ ap (Given r) (omega (arith, read-values-length r))
+    ∙ field-back s (priorityPlace r at) (r .priority) [] rest e₂ priority _ (ranges-low .4) (ok .2)
+    ∙ ap (Given (placedOf r (priorityPlace r at))) (omega (arith, read-values-length r))
+
+pub record-back : (s : List ℕ) (at : ℕ) (r : Read) (rest : List ℕ) → ReadOk r → drop at s ≡ spellings (readValues r) ++ rest
+    → recordAt s at ≡ Given r (at + length (spellings (readValues r)))
+unfolding recordAt
+record-back s at r rest ok e = rw (placed-back s at r rest ok e)
 
 -- ---- what a writer wrote
 
@@ -106,13 +116,13 @@ put-here s at xs h = drop-at (take at s) (xs ++ drop (at + length xs) s) at (len
 
 -- the writer's promise and the reader's: what was written reads back from its place, and ends where the writer said
 pub header-written-back : (s : List ℕ) (at : ℕ) (h : Header)
-    → Wrote (λ n. headerAt (put s at (spellings (headerValues h))) at ≡ Given h (at + n)) (headerWriting h (length s) at)
-unfolding headerWriting
+    → Wrote (λ n. headerAt (size .largest) (put s at (spellings (headerValues h))) at ≡ Given h (at + n)) (headerWriting h (length s) at)
+unfolding headerWriting size
 header-written-back s at h =
     wrote-ranged _ edition (h .edition) _
     (λ r₁. wrote-ranged _ size (h .size) _
     (λ r₂. wrote-spaced _ (length s) at (length (spellings (headerValues h)))
-    (λ fits. header-back (put s at (spellings (headerValues h))) at h (drop (at + length (spellings (headerValues h))) s) (r₁, r₂) (put-here s at (spellings (headerValues h)) fits))))
+    (λ fits. header-back (size .largest) (put s at (spellings (headerValues h))) at h (drop (at + length (spellings (headerValues h))) s) (ranges-low .1) (r₁, r₂) (put-here s at (spellings (headerValues h)) fits))))
 
 pub record-written-back : (s : List ℕ) (at : ℕ) (r : Read)
     → Wrote (λ n. recordAt (put s at (spellings (readValues r))) at ≡ Given r (at + n)) (recordWriting r (length s) at)

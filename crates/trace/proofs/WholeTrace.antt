@@ -9,19 +9,12 @@ use borrow.Author.Tests.{le-leb, lt-leb, leb-true}
 use Rattle.terms.specs.Reads.{Read, ReadOk, ReadsOk}
 use Rattle.trace.specs.Reading.{Reading, Given, Refused, Header, headerAt, recordAt}
 use Rattle.trace.specs.Spelling.{spellings, headerValues, readValues, recordsSpelling, traceSpelling, Bytes}
-use Rattle.trace.specs.Trace.{andThen, readsFrom, Trace, traceOf}
-use Rattle.trace.proofs.Spellings.{read-values-length, spelling-short}
+use Rattle.trace.specs.Bounds.{numberLimit}
+use Rattle.trace.specs.Trace.{readsFrom, Trace, traceOf}
+use Rattle.trace.proofs.spelling.Laws.{read-values-length, spelling-short}
 use Rattle.trace.proofs.Ends.{Within, header-within, record-within}
-use Rattle.trace.proofs.OneSpelling.{Spells, Gives, gives-cond, HeaderOk, header-spelled, record-spelled}
+use Rattle.trace.proofs.OneSpelling.{Spells, Gives, gives-cond, gives-then, HeaderOk, header-spelled, record-spelled}
 use Rattle.trace.proofs.RoundTrip.{drop-past, header-back, record-back}
-
--- ---- one reading after another
-
-module _ {A B : Type 0} where
-  gives-then : (P : A → ℕ → Type 0) (Q : B → ℕ → Type 0) (r : Reading A) (next : A → ℕ → Reading B)
-      → Gives P r → ((x : A) (end : ℕ) → P x end → Gives Q (next x end)) → Gives Q (andThen r next)
-  gives-then P Q (Given x end) next h f = f x end h
-  gives-then P Q (Refused number place) next h f = tt
 
 -- what was read, with where it ends
 module _ {A : Type 0} where
@@ -78,28 +71,29 @@ reads-back (r ∷ rs) (suc steps) s at ok h g e =
 
 -- ---- the trace
 
-pub trace-spelled : (s : List ℕ) → Bytes s
-    → Gives (λ t end. (end ≡ length s) × (s ≡ traceSpelling (t .header) (t .reads)) × HeaderOk (t .header) × ReadsOk (t .reads)) (traceOf s)
+pub trace-spelled : (largest : ℕ) (s : List ℕ) → Bytes s
+    → Gives (λ t end. (end ≡ length s) × (s ≡ traceSpelling (t .header) (t .reads)) × HeaderOk largest (t .header) × ReadsOk (t .reads)) (traceOf largest s)
 unfolding traceOf
-trace-spelled s y =
-    gives-then (Ended 0 (length s) (λ h end. Spells s 0 end (headerValues h) × HeaderOk h)) _ (headerAt s 0) _
-    (gives-ended 0 (length s) _ (headerAt s 0) (header-within s 0 (omega arith)) (header-spelled s y 0))
+trace-spelled largest s y =
+    gives-then (Ended 0 (length s) (λ h end. Spells s 0 end (headerValues h) × HeaderOk largest h)) _ (headerAt largest s 0) _
+    (gives-ended 0 (length s) _ (headerAt largest s 0) (header-within largest s 0 (omega arith)) (header-spelled largest s y 0))
     (λ h at p. gives-then (Recorded s at) _ (readsFrom (length s) s at) _ (reads-recorded (length s) s y at (p .1) (omega arith))
     (λ rs end q. (q .0, p .2 .0 .1 ∙ ap (λ (l : List ℕ). spellings (headerValues h) ++ l) (q .1), p .2 .1, q .2)))
 
 -- the bytes of an accepted trace are the spelling of what was read
-pub accepted-is-spelled : (s : List ℕ) → Bytes s → (t : Trace) (end : ℕ) → traceOf s ≡ Given t end → s ≡ traceSpelling (t .header) (t .reads)
-accepted-is-spelled s y t end e = subst (Gives _) e (trace-spelled s y) .1
+pub accepted-is-spelled : (largest : ℕ) (s : List ℕ) → Bytes s → (t : Trace) (end : ℕ) → traceOf largest s ≡ Given t end → s ≡ traceSpelling (t .header) (t .reads)
+accepted-is-spelled largest s y t end e = subst (Gives _) e (trace-spelled largest s y) .1
 
 -- two different strings of bytes never read as the same header and reads
-pub one-trace : (s s′ : List ℕ) → Bytes s → Bytes s′ → (t : Trace) (end end′ : ℕ) → traceOf s ≡ Given t end → traceOf s′ ≡ Given t end′ → s ≡ s′
-one-trace s s′ y y′ t end end′ e e′ = accepted-is-spelled s y t end e ∙ sym (accepted-is-spelled s′ y′ t end′ e′)
+pub one-trace : (largest largest′ : ℕ) (s s′ : List ℕ) → Bytes s → Bytes s′ → (t : Trace) (end end′ : ℕ)
+    → traceOf largest s ≡ Given t end → traceOf largest′ s′ ≡ Given t end′ → s ≡ s′
+one-trace largest largest′ s s′ y y′ t end end′ e e′ = accepted-is-spelled largest s y t end e ∙ sym (accepted-is-spelled largest′ s′ y′ t end′ e′)
 
 -- a trace that is spelled reads back
-pub trace-back : (h : Header) (rs : List Read) → HeaderOk h → ReadsOk rs
-    → traceOf (traceSpelling h rs) ≡ Given (record { header = h; reads = rs }) (length (traceSpelling h rs))
+pub trace-back : (largest : ℕ) (h : Header) (rs : List Read) → largest < numberLimit → HeaderOk largest h → ReadsOk rs
+    → traceOf largest (traceSpelling h rs) ≡ Given (record { header = h; reads = rs }) (length (traceSpelling h rs))
 unfolding traceOf
-trace-back h rs ok oks =
+trace-back largest h rs low ok oks =
     let long = length-append (spellings (headerValues h)) (recordsSpelling rs) in
-    rw (header-back (traceSpelling h rs) 0 h (recordsSpelling rs) ok refl)
+    rw (header-back largest (traceSpelling h rs) 0 h (recordsSpelling rs) low ok refl)
     (rw (reads-back rs (length (traceSpelling h rs)) (traceSpelling h rs) (0 + length (spellings (headerValues h))) oks (omega (arith, long)) (omega arith) (drop-past (traceSpelling h rs) 0 (spellings (headerValues h)) (recordsSpelling rs) refl)))

@@ -1,6 +1,6 @@
 -- What each answer of the code says, in the table's numbers and the format's values.
 use Rattle.terms.specs.Refusals.{numberOf}
-use Rattle.terms.specs.Reads.{Read, readOf}
+use Rattle.terms.specs.Reads.{readOf}
 use Rattle.trace.specs.Number as number
 use Rattle.trace.specs.Reading as reading
 use Rattle.trace.specs.Writing as writing
@@ -24,8 +24,8 @@ headerAnswer (the-header.Accepted e n length) = reading.Given (reading.headerOf 
 headerAnswer (the-header.Refused refusal place) = reading.Refused (numberOf refusal) place
 
 -- of the record reader
-abbrev pub recordAnswer : Record → reading.Reading Read
-recordAnswer (the-record.Read v b p length) = reading.Given (readOf v b p) length
+abbrev pub recordAnswer : Record → reading.Reading reading.Placed
+recordAnswer (the-record.Read v b p place length) = reading.Given (reading.placedOf (readOf v b p) place) length
 recordAnswer (the-record.Refused refusal place) = reading.Refused (numberOf refusal) place
 
 -- of both writers

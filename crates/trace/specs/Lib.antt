@@ -1,5 +1,6 @@
 pub mod Number
 pub mod Reading
+pub mod Events
 pub mod Spelling
 pub mod Writing
 pub mod Trace

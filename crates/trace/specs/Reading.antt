@@ -3,14 +3,24 @@ use Prim.Native.Nat.{ℕ, _+_}
 use mathlib.Core.Bool.{cond}
 use mathlib.Core.List.{List}
 use Rattle.terms.specs.Refusals.{numberOf}
-use Rattle.terms.specs.Ranges.{Range, inRange, edition, size, volume, block, priority}
+use Rattle.terms.specs.Ranges.{Range, inRange, edition, sizeUpTo, volume, block, priority}
 use Rattle.terms.specs.Reads.{Read, readOf}
 use Rattle.trace.specs.Number.{Numeral, Value, Fault, numberAt}
 
--- what was read and the place after it, or the refusal's number and its place
-pub data Reading (A : Type 0) : Type 0 where
-  Given : A → ℕ → Reading A
-  Refused : ℕ → ℕ → Reading A
+-- what was read and the position after it, or the refusal's number and its place
+pub data Found (P L A : Type 0) : Type 0 where
+  Given : A → P → Found P L A
+  Refused : ℕ → L → Found P L A
+
+-- in one string of bytes positions and places count from its start
+abbrev pub Reading : Type 0 → Type 0
+Reading A = Found ℕ ℕ A
+
+module _ {P L A B : Type 0} where
+  -- what was read and the position after it go on, or the refusal stands
+  abbrev pub andThen : Found P L A → (A → P → Found P L B) → Found P L B
+  andThen (Given x at) next = next x at
+  andThen (Refused number place) next = Refused number place
 
 module _ {A : Type 0} where
   -- a number that was read at a place: form comes before range; then its value and the place after it go on
@@ -31,14 +41,27 @@ pub record Header : Type 0 where
 abbrev pub headerOf : ℕ → ℕ → Header
 headerOf e n = record { edition = e; size = n }
 
--- the header at a place of the bytes
-unfoldable pub headerAt : List ℕ → ℕ → Reading Header
-headerAt s at = field edition s at (λ e at₁. field size s at₁ (λ n at₂. Given (headerOf e n) at₂))
+-- the header at a place of the bytes, whose size is to be no larger than the largest
+unfoldable pub headerAt : (largest : ℕ) → List ℕ → ℕ → Reading Header
+headerAt largest s at = field edition s at (λ e at₁. field (sizeUpTo largest) s at₁ (λ n at₂. Given (headerOf e n) at₂))
 
--- the record at a place of the bytes: volume, block, priority
+-- a read, and the place where its priority stands
+pub record Placed : Type 0 where
+  pub read : Read
+  pub priorityAt : ℕ
+
+-- the two together
+abbrev pub placedOf : Read → ℕ → Placed
+placedOf r at = record { read = r; priorityAt = at }
+
+-- the record at a place of the bytes: volume, block, priority; and where the priority stands
+unfoldable pub placedAt : List ℕ → ℕ → Reading Placed
+placedAt s at =
+    field volume s at (λ v at₁. field block s at₁ (λ b at₂. field priority s at₂ (λ p at₃. Given (placedOf (readOf v b p) at₂) at₃)))
+
+-- its read, without that place
 unfoldable pub recordAt : List ℕ → ℕ → Reading Read
-recordAt s at =
-    field volume s at (λ v at₁. field block s at₁ (λ b at₂. field priority s at₂ (λ p at₃. Given (readOf v b p) at₃)))
+recordAt s at = andThen (placedAt s at) (λ r end. Given (r .read) end)
 
 -- where the rest after a record starts: after the record, or at the start of the part where that is refused
 abbrev pub restStart : Reading Read → ℕ

@@ -4,6 +4,7 @@ use crate::number::Number;
 use crate::number::fault;
 use crate::number::read_number;
 use crate::spelling::write_numbers;
+use terms::LARGEST_SIZE;
 use terms::Refusal;
 ghost use mathlib.Core.Path.{_≡_};
 ghost use lib.ListN.{length};
@@ -22,8 +23,9 @@ pub enum Header {
     Refused(Refusal, usize),
 }
 
-pub fn read_header(trace: &[u8]) -> Header
-    ensures { λ r. ⌜ headerAnswer r ≡ headerAt (now (trace .entry)) 0 ⌝ }
+// The header of a trace, whose size is to be no larger than the largest.
+pub fn read_header(trace: &[u8], largest: u64) -> Header
+    ensures { λ r. ⌜ headerAnswer r ≡ headerAt largest (now (trace .entry)) 0 ⌝ }
 {
     let first = read_number(trace, 0);
     let Number::Value(edition, at_size) = first else {
@@ -36,7 +38,7 @@ pub fn read_header(trace: &[u8]) -> Header
     let Number::Value(size, size_length) = second else {
         return Header::Refused(fault(second), at_size);
     };
-    if !terms::is_size(size) {
+    if !terms::is_size(size, largest) {
         return Header::Refused(Refusal::Size, at_size);
     }
     Header::Accepted {
@@ -54,7 +56,7 @@ pub fn write_header(buffer: &mut [u8], at: usize, edition: u64, size: u64) -> Wr
     if !terms::is_edition(edition) {
         return Written::Refused(Refusal::Edition);
     }
-    if !terms::is_size(size) {
+    if !terms::is_size(size, LARGEST_SIZE as u64) {
         return Written::Refused(Refusal::Size);
     }
     let values = [edition, size];

@@ -8,7 +8,7 @@ use terms::Refusal;
 ghost use mathlib.Core.Path.{_≡_};
 ghost use lib.ListN.{length, drop};
 ghost use Rattle.terms.specs.Reads.{readOf};
-ghost use Rattle.trace.specs.Reading.{recordAt, restStart, onwards};
+ghost use Rattle.trace.specs.Reading.{placedAt, recordAt, restStart, onwards};
 ghost use Rattle.trace.specs.Spelling.{spellings, readValues};
 ghost use Rattle.trace.specs.Writing.{recordWriting, bufferAfter};
 ghost use Rattle.trace.specs.Answers.{recordAnswer, writtenAnswer};
@@ -18,6 +18,8 @@ pub enum Record {
         volume: u64,
         block: u64,
         priority: u64,
+        // The offset of the priority.
+        priority_at: usize,
         length: usize,
     },
     // Why, and the offset of the number at fault.
@@ -25,7 +27,7 @@ pub enum Record {
 }
 
 pub fn read_record(part: &[u8]) -> Record
-    ensures { λ r. ⌜ recordAnswer r ≡ recordAt (now (part .entry)) 0 ⌝ }
+    ensures { λ r. ⌜ recordAnswer r ≡ placedAt (now (part .entry)) 0 ⌝ }
 {
     let first = read_number(part, 0);
     let Number::Value(volume, at_block) = first else {
@@ -50,6 +52,7 @@ pub fn read_record(part: &[u8]) -> Record
         volume,
         block,
         priority,
+        priority_at: at_priority,
         length: at_priority + priority_length,
     }
 }
@@ -64,6 +67,7 @@ pub fn rest(part: &[u8]) -> &[u8]
         volume: _,
         block: _,
         priority: _,
+        priority_at: _,
         length,
     } = record
     else {

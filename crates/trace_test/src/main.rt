@@ -2,6 +2,7 @@
 ghost use Prim.Native.Nat.{_≤_};
 ghost use lib.ListN.{length};
 use libc::STDOUT_FILENO;
+use terms::LARGEST_SIZE;
 use terms::Refusal;
 use trace::Written;
 use trace::header::Header;
@@ -55,7 +56,7 @@ fn number(bytes: &[u8]) {
 fn header(bytes: &[u8]) {
     say(b"header");
     say_bytes(bytes);
-    match trace::header::read_header(bytes) {
+    match trace::header::read_header(bytes, LARGEST_SIZE as u64) {
         Header::Accepted {
             edition,
             size,
@@ -81,6 +82,7 @@ fn record(bytes: &[u8]) {
             volume,
             block,
             priority,
+            priority_at: _,
             length,
         } => {
             say_number(b": volume ", volume);

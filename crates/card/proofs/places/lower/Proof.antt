@@ -4,7 +4,7 @@ use Prim.Native.Nat.{_-_}
 use native.Mathlib.Omega.{arith}
 use lib.ListN.{length-set}
 use Rattle.card.specs.Rule.{lowered}
-use Rattle.card.proofs.Sweeps.{lower-turn, lower-end, Swept, swept-none, swept-next}
+use Rattle.card.proofs.places.Sweeps.{lower-turn, lower-end, Swept, swept-none, swept-next}
 use Rattle.card.proofs.places.lower.Statement.{statement}
 use Rattle.card.proofs.places.lower.Tie as tie
 

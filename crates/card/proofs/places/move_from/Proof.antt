@@ -1,7 +1,7 @@
 -- `card::places::move_from` meets its contract: the outcome and the shift, where the card has the place. Assumes nothing.
 use native.Mathlib.Omega.{arith}
 use borrow.Author.Needs.{needs}
-use Rattle.card.proofs.OutcomeCases.{moved-past, moved-is}
+use Rattle.card.proofs.places.Cases.{moved-past, moved-is}
 use Rattle.card.proofs.places.move_from.Statement.{statement}
 use Rattle.card.proofs.places.move_from.Tie as tie
 

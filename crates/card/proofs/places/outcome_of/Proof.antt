@@ -1,5 +1,5 @@
 -- `card::places::outcome_of` meets its contract: each way out is a case of the table. Assumes nothing.
-use Rattle.card.proofs.OutcomeCases.{outcome-cases}
+use Rattle.card.proofs.places.Cases.{outcome-cases}
 use Rattle.card.proofs.places.outcome_of.Statement.{statement}
 use Rattle.card.proofs.places.outcome_of.Tie as tie
 

@@ -4,7 +4,7 @@ use Prim.Native.Nat.{_-_, _≤_}
 use native.Mathlib.Omega.{arith}
 use lib.ListN.{length, take}
 use Rattle.card.specs.Rule.{place}
-use Rattle.card.proofs.Searches.{place-here, place-on, place-end}
+use Rattle.card.proofs.places.Searches.{place-here, place-on, place-end}
 use Rattle.card.proofs.places.place_from.Statement.{statement}
 use Rattle.card.proofs.places.place_from.Tie as tie
 

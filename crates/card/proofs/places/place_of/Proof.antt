@@ -5,7 +5,7 @@ use native.Mathlib.Omega.{arith}
 use borrow.Author.Needs.{needs}
 use lib.ListN.{length, take}
 use Rattle.card.specs.Rule.{place}
-use Rattle.card.proofs.Searches.{fours, none-of-four}
+use Rattle.card.proofs.places.Searches.{fours, none-of-four}
 use Rattle.card.proofs.places.place_of.Statement.{statement}
 use Rattle.card.proofs.places.place_of.Tie as tie
 

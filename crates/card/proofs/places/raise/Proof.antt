@@ -4,7 +4,7 @@ use Prim.Native.Nat.{_-_}
 use native.Mathlib.Omega.{arith}
 use lib.ListN.{length-set}
 use Rattle.card.specs.Rule.{raised}
-use Rattle.card.proofs.Sweeps.{raise-turn, raise-end, Swept, swept-none, swept-next}
+use Rattle.card.proofs.places.Sweeps.{raise-turn, raise-end, Swept, swept-none, swept-next}
 use Rattle.card.proofs.places.raise.Statement.{statement}
 use Rattle.card.proofs.places.raise.Tie as tie
 

@@ -1,6 +1,6 @@
 -- `card::places::read` meets its contract: the place, the outcome and the move, one after the other. Assumes nothing.
 use borrow.Author.Needs.{needs}
-use Rattle.card.proofs.OutcomeCases.{read-is}
+use Rattle.card.proofs.places.Cases.{read-is}
 use Rattle.card.proofs.places.read.Statement.{statement}
 use Rattle.card.proofs.places.read.Tie as tie
 

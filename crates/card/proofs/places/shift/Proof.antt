@@ -1,7 +1,8 @@
 -- `card::places::shift` meets its contract: the number is one of the six, and each arm knows which. Assumes nothing.
 use native.Mathlib.Omega.{arith}
 use borrow.Author.Needs.{needs}
-use Rattle.card.proofs.OutcomeCases.{arm-facts, past-six, no-effect}
+use Rattle.card.proofs.OutcomeCases.{past-six}
+use Rattle.card.proofs.places.Cases.{arm-facts, no-effect}
 use Rattle.card.proofs.places.shift.Statement.{statement}
 use Rattle.card.proofs.places.shift.Tie as tie
 

@@ -6,7 +6,7 @@ use native.Mathlib.Omega.{arith}
 use borrow.Author.Needs.{needs}
 use lib.ListN.{length, drop}
 use Rattle.card.specs.State.{apart}
-use Rattle.card.proofs.Searches.{apart-end, apart-empty, apart-found, apart-on}
+use Rattle.card.proofs.state.Searches.{apart-end, apart-empty, apart-found, apart-on}
 use Rattle.card.proofs.state.all_apart.Statement.{statement}
 use Rattle.card.proofs.state.all_apart.Tie as tie
 

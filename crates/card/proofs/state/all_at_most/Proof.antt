@@ -5,7 +5,7 @@ use native.Mathlib.Omega.{arith}
 use lib.ListN.{length, drop}
 use borrow.Author.Tests.{le-leb, lt-leb}
 use Rattle.card.specs.State.{every, atMost}
-use Rattle.card.proofs.Searches.{every-here, every-on, every-end}
+use Rattle.card.proofs.state.Searches.{every-here, every-on, every-end}
 use Rattle.card.proofs.state.all_at_most.Statement.{statement}
 use Rattle.card.proofs.state.all_at_most.Tie as tie
 

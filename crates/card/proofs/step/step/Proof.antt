@@ -5,8 +5,7 @@ use borrow.Author.Tests.{not-false}
 use borrow.Author.Needs.{needs}
 use lib.ListN.{length}
 use Rattle.terms.specs.Ranges.{size}
-use Rattle.card.proofs.States.{state-size}
-use Rattle.card.proofs.Steps.{no-state, no-volume, no-priority, stepped}
+use Rattle.card.proofs.step.Cases.{state-size, no-state, no-volume, no-priority, stepped}
 use Rattle.card.proofs.step.step.Statement.{statement}
 use Rattle.card.proofs.step.step.Tie as tie
 

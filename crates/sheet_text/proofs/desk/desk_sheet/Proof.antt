@@ -9,8 +9,8 @@ use Rattle.sizes.specs.Outcome.{Areas}
 use Rattle.sizes.specs.Answers.{areasOf}
 use Rattle.sheet_text.specs.Sheet.{refusedLine, shown}
 use Rattle.sheet_text.specs.Desk.{largestInput}
-use Rattle.sheet_text.proofs.Sheets.{whole}
-use Rattle.sheet_text.proofs.Desks.{large-sheet, large-areas, small-sheet, small-areas}
+use Rattle.sheet_text.proofs.sheet.WaysOut.{whole}
+use Rattle.sheet_text.proofs.desk.Lengths.{large-sheet, large-areas, small-sheet, small-areas}
 use Rattle.sheet_text.proofs.desk.desk_sheet.Statement.{statement}
 use Rattle.sheet_text.proofs.desk.desk_sheet.Tie as tie
 

@@ -1,7 +1,7 @@
 -- `sheet_text::sheet::put_heading` meets its contract: each call puts in the next part of the line. Assumes nothing.
 use native.Mathlib.Omega.{arith}
 use borrow.Author.Needs.{needs}
-use Rattle.sheet_text.proofs.Lines.{heading-put}
+use Rattle.sheet_text.proofs.sheet.Lines.{heading-put}
 use Rattle.sheet_text.proofs.sheet.put_heading.Statement.{statement}
 use Rattle.sheet_text.proofs.sheet.put_heading.Tie as tie
 
@@ -14,7 +14,7 @@ returns c =
     let third = fourth .before .before .before .before in
     let second = third .before .before .before .before .before in
     let first = second .before .before .before .before in
-    (heading-put _ _ _ (first .put-words .ensures) (second .put-spaced .ensures .0) (third .put-words2 .ensures) (fourth .put-spaced2 .ensures .0) (fifth .put-words3 .ensures) (sixth .put-spaced3 .ensures .0) (seventh .put-words4 .ensures), omega arith)
+    (heading-put _ (first .put-words .ensures) (second .put-spaced .ensures .0) (third .put-words2 .ensures) (fourth .put-spaced2 .ensures .0) (fifth .put-words3 .ensures) (sixth .put-spaced3 .ensures .0) (seventh .put-words4 .ensures), omega arith)
 
 pub put-heading-spec : {M : Type 1} → statement M
 put-heading-spec =

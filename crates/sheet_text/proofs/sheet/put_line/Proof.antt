@@ -1,7 +1,7 @@
 -- `sheet_text::sheet::put_line` meets its contract: each call puts in the next part of the line. Assumes nothing.
 use native.Mathlib.Omega.{arith}
 use borrow.Author.Needs.{needs}
-use Rattle.sheet_text.proofs.Lines.{line-put}
+use Rattle.sheet_text.proofs.sheet.Lines.{line-put}
 use Rattle.sheet_text.proofs.sheet.put_line.Statement.{statement}
 use Rattle.sheet_text.proofs.sheet.put_line.Tie as tie
 

@@ -6,7 +6,7 @@ use native.Mathlib.Omega.{arith}
 use lib.ListN.{length}
 use Rattle.sheet_text.specs.Sheet.{cell, linesOf}
 use Rattle.sheet_text.specs.Writing.{Wrote}
-use Rattle.sheet_text.proofs.Lines.{no-lines, lines-put}
+use Rattle.sheet_text.proofs.sheet.Lines.{no-lines, lines-put}
 use Rattle.sheet_text.proofs.sheet.put_lines.Statement.{statement}
 use Rattle.sheet_text.proofs.sheet.put_lines.Tie as tie
 

@@ -2,8 +2,8 @@
 use native.Mathlib.Omega.{arith}
 use borrow.Author.Needs.{needs}
 use Rattle.sizes.specs.Answers.{areasOf}
-use Rattle.sheet_text.proofs.Bounds.{lines-short}
-use Rattle.sheet_text.proofs.Sheets.{lines-ready, sheet-done, sheet-refused, whole}
+use Rattle.sheet_text.proofs.sheet.Bounds.{lines-short}
+use Rattle.sheet_text.proofs.sheet.WaysOut.{lines-ready, sheet-done, sheet-refused, whole}
 use Rattle.sheet_text.proofs.sheet.sheet.Statement.{statement}
 use Rattle.sheet_text.proofs.sheet.sheet.Tie as tie
 
@@ -13,7 +13,7 @@ put-lines-requires c κs =
     let ran = matched .before .before .before .before .before .before .before .before in
     let args = ran .before .before .before .before .before .before .before .before .before .args in
     let said = ran .run .ensures in
-    let ready = lines-ready (args .trace .now) (areasOf (args .blocks .now) (args .stretches .now) (args .counts .now)) _ (said .0) _ _ _ (matched .reads .given .1) _ (said .1 .2) _ (c .size-in .ensures) (omega arith) in
+    let ready = lines-ready (args .trace .now) (areasOf (args .blocks .now) (args .stretches .now) (args .counts .now)) _ (said .0) _ (matched .report .given .1) _ (said .1 .2) _ (c .size-in .ensures) (omega (arith, c .before .before .before .before .before .before .before .known-told .given)) in
     (omega arith, ready .0, ready .1, ready .2)
 
 returns : tie.Need-returns
@@ -24,7 +24,7 @@ returns c =
     let ran = matched .before .before .before .before .before .before .before .before in
     let args = ran .before .before .before .before .before .before .before .before .before .args in
     let said = ran .run .ensures in
-    let put = sheet-done (args .trace .now) (areasOf (args .blocks .now) (args .stretches .now) (args .counts .now)) _ (said .0) _ _ _ (matched .reads .given .1) _ (said .1 .2) _ (lined .before .size-in .ensures) (headed .put-heading .ensures .0) (lined .put-lines .ensures .0) in
+    let put = sheet-done (args .trace .now) (areasOf (args .blocks .now) (args .stretches .now) (args .counts .now)) _ (said .0) _ (matched .report .given .1) _ (said .1 .2) _ (lined .before .size-in .ensures) (headed .put-heading .ensures .0) (lined .put-lines .ensures .0) in
     (whole put, (omega (arith, lines-short (args .trace .now)), said .1))
 
 returns-2 : tie.Need-returns-2

@@ -1,7 +1,7 @@
 -- `sheet_text::sheet::put_refused` meets its contract: each call puts in the next part of the line. Assumes nothing.
 use native.Mathlib.Omega.{arith}
 use borrow.Author.Needs.{needs}
-use Rattle.sheet_text.proofs.Lines.{refused-put}
+use Rattle.sheet_text.proofs.sheet.Lines.{refused-put}
 use Rattle.sheet_text.proofs.text.put_refused.Statement.{statement}
 use Rattle.sheet_text.proofs.text.put_refused.Tie as tie
 

@@ -5,8 +5,9 @@ use borrow.Author.Needs.{needs}
 use Prim.Native.Nat.{ℕ}
 use lib.ListN.{length-replicate}
 use lib.Seq.{length-take-le}
-use Rattle.sizes.specs.Outcome.{countsLength, zeros}
-use Rattle.sizes.proofs.PassClears.{fronted-is}
+use Rattle.counts.specs.Columns.{countsLength}
+use Rattle.terms.specs.Areas.{zeros}
+use Rattle.pass.proofs.areas.Clears.{fronted-is}
 use Rattle.sizes.proofs.run.clear_counts.Statement.{statement}
 use Rattle.sizes.proofs.run.clear_counts.Tie as tie
 

@@ -1,8 +1,8 @@
 -- `sizes::run::is_room` meets its contract: each way out is a test of it. Assumes nothing.
 use native.Mathlib.Omega.{arith}
 use borrow.Author.Needs.{needs}
-use Rattle.sizes.proofs.Widths.{size-small}
-use Rattle.sizes.proofs.PassRoom.{no-blocks, no-stretches, for-counts}
+use Rattle.engine.proofs.Widths.{size-small}
+use Rattle.sizes.proofs.run.Room.{no-blocks, no-stretches, for-counts}
 use Rattle.sizes.proofs.run.is_room.Statement.{statement}
 use Rattle.sizes.proofs.run.is_room.Tie as tie
 

@@ -4,8 +4,9 @@ use native.Mathlib.Omega.{arith}
 use borrow.Author.Needs.{needs}
 use lib.ListN.{length}
 use Rattle.trace.specs.Trace.{readsFrom}
-use Rattle.sizes.specs.Outcome.{zeros, stretchesLength}
-use Rattle.sizes.proofs.PassClears.{cleared-whole}
+use Rattle.terms.specs.Areas.{zeros}
+use Rattle.engine.specs.Rows.{stretchesLength}
+use Rattle.pass.proofs.areas.Clears.{cleared-whole}
 use Rattle.sizes.proofs.run.pass.Statement.{statement}
 use Rattle.sizes.proofs.run.pass.Tie as tie
 
@@ -13,11 +14,11 @@ records-requires : tie.Need-records-requires
 records-requires c κs =
     let start = c .before .before .before .before .before .before .before .before .before .before .before .before .before .before .before .before .before .before .before in (
       start .pre .0,
-      start .pre .1,
-      start .pre .2,
-      c .before .before .before .before .before .before .before .before .before .before .before .before .before .clear-numbers .ensures ∙ ap zeros (start .pre .3),
-      c .before .before .before .before .before .before .before .before .before .clear-pairs .ensures ∙ ap zeros (start .pre .4),
-      cleared-whole (start .args .counts .now) _ _ (start .pre .5) (c .before .before .before .before .before .clear-counts .ensures),
+      record {
+        places = c .before .before .before .before .before .before .before .before .before .before .before .before .before .clear-numbers .ensures ∙ ap zeros (start .pre .1 .places);
+        rows = c .before .before .before .before .before .before .before .before .before .clear-pairs .ensures ∙ ap zeros (start .pre .1 .rows);
+        columns = cleared-whole (start .args .counts .now) _ _ (start .pre .1 .columns) (c .before .before .before .before .before .clear-counts .ensures);
+      },
     )
 
 settle-requires : tie.Need-settle-requires
@@ -34,8 +35,8 @@ returns c =
     let s = start .args .trace .now in
     let left = after .records .last .1 .1 in
     let said = after .records .ensures in
-    let blocks : length (left .0) ≡ start .args .n = c .before .before .before .before .before .before .before .before .before .before .before .before .before .before .before .before .before .blocks3 .given ∙ after .before .before .before .before .before .before .before .before .before .before .before .before .before .blocks2 .given ∙ start .pre .3 in
-    let stretches : length (left .1 .0) ≡ stretchesLength (start .args .n) = c .before .before .before .before .before .before .before .before .before .before .before .before .before .before .before .stretches2 .given ∙ after .before .before .before .before .before .before .before .before .before .stretches .given ∙ start .pre .4 in (
+    let blocks : length (left .0) ≡ start .args .n = c .before .before .before .before .before .before .before .before .before .before .before .before .before .before .before .before .before .blocks3 .given ∙ after .before .before .before .before .before .before .before .before .before .before .before .before .before .blocks2 .given ∙ start .pre .1 .places in
+    let stretches : length (left .1 .0) ≡ stretchesLength (start .args .n) = c .before .before .before .before .before .before .before .before .before .before .before .before .before .before .before .stretches2 .given ∙ after .before .before .before .before .before .before .before .before .before .stretches .given ∙ start .pre .1 .rows in (
       said .0,
       c .before .before .before .before .before .before .before .before .before .before .clear-numbers2 .ensures ∙ ap zeros blocks,
       c .before .before .before .before .before .before .clear-pairs2 .ensures ∙ ap zeros stretches,

@@ -7,15 +7,17 @@ use lib.Seq.{length-take-le}
 use borrow.Author.Needs.{needs}
 use Rattle.terms.specs.Ranges.{size}
 use Rattle.trace.specs.Trace.{readsFrom}
-use Rattle.sizes.specs.Outcome.{stretchesLength, countsLength}
+use Rattle.engine.specs.Rows.{stretchesLength}
+use Rattle.counts.specs.Columns.{countsLength}
 use Rattle.sizes.specs.Answers.{areasOf}
-use Rattle.sizes.proofs.Widths.{size-small}
-use Rattle.sizes.proofs.RanOutcomes.{fronts-out, header-in, out-refused, out-of-room, out-passed, room-in}
+use Rattle.engine.proofs.Widths.{size-small}
+use Rattle.sizes.proofs.run.WaysOut.{fronts-out, header-in, out-refused, out-of-room, out-passed, room-in}
 use Rattle.sizes.proofs.run.run.Statement.{statement}
 use Rattle.sizes.proofs.run.run.Tie as tie
 
 -- the size and where the header ends
 headed : (c : tie.After-known-told) → (1 ≤ c .before .size .given .0 .1 .0) × (c .before .size .given .0 .1 .0 ≤ size .largest) × (c .before .size .given .0 .1 .1 .0 ≤ length (c .before .before .before .before .before .before .before .before .args .trace .now))
+unfolding size
 headed c = header-in (c .before .before .before .before .before .before .before .before .args .trace .now) _ (c .before .before .before .read-header .ensures) _ _ _ (c .before .size .given .1)
 
 -- the areas are long enough
@@ -26,6 +28,7 @@ wide : (c : tie.After-stretches-length) → c .stretches-length .result ≤ leng
 wide c = omega (arith, room (c .before), c .stretches-length .ensures)
 
 returns : tie.Need-returns
+unfolding size
 returns c =
     let args = c .before .before .before .before .before .before .before .before .before .before .args in
     rw (out-of-room (args .trace .now) _ (c .before .before .before .before .before .read-header .ensures) (areasOf (args .blocks .now) (args .stretches .now) (args .counts .now)) _ _ _ (c .before .before .before .size .given .1) _ (c .before .is-room .ensures) (c .if1 .taken))
@@ -36,15 +39,16 @@ pass-requires c κs =
     let in-range = headed (c .before .before .before .before .before .before) in
     let args = c .before .before .before .before .before .before .before .before .before .before .before .before .before .before .args in
     let long = room (c .before .before .before .before) in (
-      in-range .0,
-      in-range .1,
-      in-range .2,
-      length-take-le _ (args .blocks .now) (long .0),
-      length-take-le _ (args .stretches .now) (wide (c .before .before .before)) ∙ c .before .before .before .stretches-length .ensures,
-      length-take-le _ (args .counts .now) (long .2),
+      record { some = in-range .0; within = in-range .1; inside = in-range .2 },
+      record {
+        places = length-take-le _ (args .blocks .now) (long .0);
+        rows = length-take-le _ (args .stretches .now) (wide (c .before .before .before)) ∙ c .before .before .before .stretches-length .ensures;
+        columns = length-take-le _ (args .counts .now) (long .2);
+      },
     )
 
 returns-2 : tie.Need-returns-2
+unfolding size
 returns-2 c =
     let tested = c .before .before .before .before .before .before .before .before .before .before .before in
     let args = tested .before .before .before .before .before .before .before .before .before .before .args in
@@ -56,6 +60,7 @@ returns-2 c =
     (out .0, (out .1, out .2, out .3))
 
 returns-3 : tie.Need-returns-3
+unfolding size
 returns-3 c =
     let args = c .before .before .before .before .before .before .before .before .args in
     rw (out-refused (args .trace .now) _ (c .before .before .before .read-header .ensures) (areasOf (args .blocks .now) (args .stretches .now) (args .counts .now)) _ _ (c .before .why .given .1))

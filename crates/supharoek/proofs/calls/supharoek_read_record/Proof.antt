@@ -3,7 +3,7 @@ use borrow.Author.Needs.{needs}
 use mathlib.Core.Path.{refl}
 use Rattle.trace.specs.Answers.{recordAnswer}
 use Rattle.supharoek.specs.Told.{recordTold}
-use Rattle.supharoek.proofs.Tellings.{told-case}
+use Rattle.supharoek.proofs.told.Tellings.{told-case}
 use Rattle.supharoek.proofs.calls.supharoek_read_record.Statement.{statement}
 use Rattle.supharoek.proofs.calls.supharoek_read_record.Tie as tie
 

@@ -1,6 +1,6 @@
 -- `supharoek::calls::supharoek_write_header` meets its contract: each arm is a case of the answer. Assumes nothing.
 use borrow.Author.Needs.{needs}
-use Rattle.supharoek.proofs.Tellings.{written-told}
+use Rattle.supharoek.proofs.told.Tellings.{written-told}
 use Rattle.supharoek.proofs.calls.supharoek_write_header.Statement.{statement}
 use Rattle.supharoek.proofs.calls.supharoek_write_header.Tie as tie
 

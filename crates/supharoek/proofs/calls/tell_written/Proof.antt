@@ -3,7 +3,7 @@ use borrow.Author.Needs.{needs}
 use mathlib.Core.Path.{refl}
 use Rattle.trace.specs.Answers.{writtenAnswer}
 use Rattle.supharoek.specs.Told.{writingTold}
-use Rattle.supharoek.proofs.Tellings.{told-case, shown-none}
+use Rattle.supharoek.proofs.told.Tellings.{told-case, shown-none}
 use Rattle.supharoek.proofs.calls.tell_written.Statement.{statement}
 use Rattle.supharoek.proofs.calls.tell_written.Tie as tie
 

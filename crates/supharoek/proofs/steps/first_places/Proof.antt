@@ -3,7 +3,7 @@ use native.Mathlib.Omega.{arith}
 use borrow.Author.Needs.{needs}
 use lib.ListN.{length-take}
 use Rattle.terms.specs.Ranges.{size}
-use Rattle.supharoek.proofs.StepCases.{first-is}
+use Rattle.supharoek.proofs.steps.Cases.{first-is}
 use Rattle.supharoek.proofs.steps.first_places.Statement.{statement}
 use Rattle.supharoek.proofs.steps.first_places.Tie as tie
 

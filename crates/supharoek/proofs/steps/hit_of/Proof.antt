@@ -1,6 +1,5 @@
 -- `supharoek::steps::hit_of` meets its contract: each branch is a case of the test. Assumes nothing.
 use borrow.Author.Needs.{needs}
-use mathlib.Core.Path.{_≡_, refl}
 use Rattle.supharoek.proofs.steps.hit_of.Statement.{statement}
 use Rattle.supharoek.proofs.steps.hit_of.Tie as tie
 

@@ -3,7 +3,7 @@ use borrow.Author.Needs.{needs}
 use mathlib.Core.Path.{refl}
 use Rattle.card.specs.Answers.{countedAnswer}
 use Rattle.supharoek.specs.Told.{countTold}
-use Rattle.supharoek.proofs.Tellings.{told-case}
+use Rattle.supharoek.proofs.told.Tellings.{told-case}
 use Rattle.supharoek.proofs.steps.supharoek_count.Statement.{statement}
 use Rattle.supharoek.proofs.steps.supharoek_count.Tie as tie
 

@@ -1,6 +1,6 @@
 -- `supharoek::steps::supharoek_ratio` meets its contract: the ratio is the card's. Assumes nothing.
 use borrow.Author.Needs.{needs}
-use Rattle.supharoek.proofs.StepCases.{some-ratio, no-ratio}
+use Rattle.supharoek.proofs.steps.Cases.{some-ratio, no-ratio}
 use Rattle.supharoek.proofs.steps.supharoek_ratio.Statement.{statement}
 use Rattle.supharoek.proofs.steps.supharoek_ratio.Tie as tie
 

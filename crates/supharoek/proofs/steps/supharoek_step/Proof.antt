@@ -4,7 +4,7 @@ use borrow.Author.Needs.{needs}
 use lib.ListN.{length}
 use Rattle.terms.specs.Ranges.{size}
 use Rattle.supharoek.specs.Told.{placesLent}
-use Rattle.supharoek.proofs.StepCases.{no-room, stepped}
+use Rattle.supharoek.proofs.steps.Cases.{no-room, stepped}
 use Rattle.supharoek.proofs.steps.supharoek_step.Statement.{statement}
 use Rattle.supharoek.proofs.steps.supharoek_step.Tie as tie
 

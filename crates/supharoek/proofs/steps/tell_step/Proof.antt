@@ -5,7 +5,7 @@ use mathlib.Core.List.{[], _∷_}
 use Prim.Native.Nat.{ℕ}
 use Rattle.card.specs.Answers.{answerOf}
 use Rattle.supharoek.specs.Told.{tells, stepTold}
-use Rattle.supharoek.proofs.Tellings.{told-case, shown-none}
+use Rattle.supharoek.proofs.told.Tellings.{told-case, shown-none}
 use Rattle.supharoek.proofs.steps.tell_step.Statement.{statement}
 use Rattle.supharoek.proofs.steps.tell_step.Tie as tie
 

@@ -3,7 +3,7 @@ use mathlib.Core.Path.{_≡_, refl, _∙_}
 use Prim.Native.Nat.{_-_, _≤_}
 use native.Mathlib.Omega.{arith}
 use lib.ListN.{length, length-set}
-use Rattle.supharoek.proofs.StepCases.{written, write-turn, write-end}
+use Rattle.supharoek.proofs.steps.Cases.{written, write-turn, write-end}
 use Rattle.supharoek.proofs.steps.write_places.Statement.{statement}
 use Rattle.supharoek.proofs.steps.write_places.Tie as tie
 

@@ -1,5 +1,6 @@
 -- `trace::header::read_header` meets its contract: each way out is a case of `headerAt`. Assumes nothing.
-use Rattle.trace.proofs.Readings.{header-cases, two-fit}
+use Rattle.trace.proofs.Fields.{two-fit}
+use Rattle.trace.proofs.header.Readings.{header-cases}
 use Rattle.trace.proofs.header.read_header.Statement.{statement}
 use Rattle.trace.proofs.header.read_header.Tie as tie
 

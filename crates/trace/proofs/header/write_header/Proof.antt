@@ -2,16 +2,19 @@
 use mathlib.Core.Path.{refl}
 use native.Mathlib.Omega.{arith}
 use borrow.Author.Needs.{needs}
-use Rattle.trace.proofs.Writings.{other-edition, other-size, header-low, header-written}
+use Rattle.terms.specs.Ranges.{size}
+use Rattle.trace.proofs.header.Writings.{other-edition, other-size, header-low, header-written}
 use Rattle.trace.proofs.header.write_header.Statement.{statement}
 use Rattle.trace.proofs.header.write_header.Tie as tie
 
 values-low : tie.Need-write-numbers-requires
+unfolding size
 values-low c κs =
-    let low = header-low _ _ _ _ (c .before .before .before .before .before .is-edition .ensures) (c .before .before .before .before .if1 .left) (c .before .before .before .is-size .ensures) (c .before .before .if2 .left) in
+    let low = header-low _ (c .before .before .before .before .before .before .before .args .size) _ _ (c .before .before .before .before .before .is-edition .ensures) (c .before .before .before .before .if1 .left) (c .before .before .before .is-size .ensures) (c .before .before .if2 .left) in
     (omega arith, (omega arith, tt))
 
 pub write-header-spec : {M : Type 1} → statement M
+unfolding size
 write-header-spec =
     tie.close
     (tie.spec

@@ -3,7 +3,7 @@ use Prim.Native.Nat.{ℕ, _<_}
 use native.Mathlib.Omega.{arith}
 use borrow.Fn.Kinds.{In}
 use borrow.Fn.PlainCycle.{Measures, is, falls, and}
-use Rattle.trace.proofs.NumberCases.{number-cases}
+use Rattle.trace.proofs.number.Cases.{number-cases}
 use Rattle.trace.proofs.number.number_from.Reads as number-from
 use Rattle.trace.proofs.number.number_from.Kinds as number-from-kinds
 use Rattle.trace.proofs.number.+number_from.Lts-number_from as number-from-lts

@@ -1,5 +1,5 @@
 -- `trace::number::after_byte` meets its contract: each way out is a case of `after`. Assumes nothing.
-use Rattle.trace.proofs.NumberCases.{after-cases}
+use Rattle.trace.proofs.number.Cases.{after-cases}
 use Rattle.trace.proofs.number.after_byte.Statement.{statement}
 use Rattle.trace.proofs.number.after_byte.Tie as tie
 

@@ -1,5 +1,6 @@
--- `trace::record::read_record` meets its contract: each way out is a case of `recordAt`. Assumes nothing.
-use Rattle.trace.proofs.Readings.{record-cases, two-fit, three-fit}
+-- `trace::record::read_record` meets its contract: each way out is a case of `placedAt`. Assumes nothing.
+use Rattle.trace.proofs.Fields.{two-fit, three-fit}
+use Rattle.trace.proofs.record.Readings.{record-cases}
 use Rattle.trace.proofs.record.read_record.Statement.{statement}
 use Rattle.trace.proofs.record.read_record.Tie as tie
 

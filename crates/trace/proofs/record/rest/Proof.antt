@@ -5,7 +5,7 @@ use native.Mathlib.Nat.{zero-add}
 use native.Mathlib.Omega.{arith}
 use borrow.Author.Needs.{needs}
 use borrow.Rule.Slice.PartAt.{part-to-end}
-use Rattle.trace.proofs.Ends.{rest-refused, rest-after, rest-in}
+use Rattle.trace.proofs.record.Rests.{rest-refused, rest-after, rest-in}
 use Rattle.trace.proofs.record.rest.Statement.{statement}
 use Rattle.trace.proofs.record.rest.Tie as tie
 
@@ -17,12 +17,12 @@ returns c =
 sub-result : tie.Need-sub-result
 sub-result c =
     let s = c .before .before .before .before .before .args .part .now in
-    omega (arith, rest-in s, rest-after s _ (c .before .before .before .read-record .ensures) _ _ _ _ (c .before .«record» .given .1))
+    omega (arith, rest-in s, rest-after s _ (c .before .before .before .read-record .ensures) _ _ _ _ _ (c .before .«record» .given .1))
 
 returns-2 : tie.Need-returns-2
 returns-2 c =
     let s = c .before .before .before .before .before .before .args .part .now in
-    rw (rest-after s _ (c .before .before .before .before .read-record .ensures) _ _ _ _ (c .before .before .«record» .given .1)) (part-to-end s _, refl)
+    rw (rest-after s _ (c .before .before .before .before .read-record .ensures) _ _ _ _ _ (c .before .before .«record» .given .1)) (part-to-end s _, refl)
 
 pub rest-spec : {M : Type 1} → statement M
 rest-spec =

@@ -2,7 +2,7 @@
 use mathlib.Core.Path.{refl}
 use native.Mathlib.Omega.{arith}
 use borrow.Author.Needs.{needs}
-use Rattle.trace.proofs.Writings.{over-volume, other-priority, record-low, record-written}
+use Rattle.trace.proofs.record.Writings.{over-volume, other-priority, record-low, record-written}
 use Rattle.trace.proofs.record.write_record.Statement.{statement}
 use Rattle.trace.proofs.record.write_record.Tie as tie
 

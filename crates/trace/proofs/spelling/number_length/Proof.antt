@@ -5,7 +5,7 @@ use native.Mathlib.Omega.{arith}
 use lib.ListN.{length}
 use Rattle.trace.specs.Spelling.{spelling}
 use Rattle.trace.specs.Bounds.{numberLimit}
-use Rattle.trace.proofs.Spellings.{spelling-short, length-low, length-high}
+use Rattle.trace.proofs.spelling.Laws.{spelling-short, length-low, length-high}
 use Rattle.trace.proofs.spelling.number_length.Statement.{statement}
 use Rattle.trace.proofs.spelling.number_length.Tie as tie
 

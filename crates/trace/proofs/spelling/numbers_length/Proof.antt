@@ -5,7 +5,7 @@ use native.Mathlib.Omega.{arith}
 use lib.ListN.{length, getD, drop}
 use Rattle.trace.specs.Spelling.{spelling, spellings}
 use Rattle.trace.specs.Bounds.{Spelled}
-use Rattle.trace.proofs.Spellings.{next-spelled, next-length, last-value, spellings-short}
+use Rattle.trace.proofs.spelling.Laws.{next-spelled, next-length, last-value, spellings-short}
 use Rattle.trace.proofs.spelling.numbers_length.Statement.{statement}
 use Rattle.trace.proofs.spelling.numbers_length.Tie as tie
 

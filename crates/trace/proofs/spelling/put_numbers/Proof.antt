@@ -1,11 +1,11 @@
--- `trace::spelling::put_numbers` meets its contract, by the laws of `PutNumbers`. Assumes nothing.
+-- `trace::spelling::put_numbers` meets its contract, by the laws of `Turns`. Assumes nothing.
 use mathlib.Core.Path.{refl}
 use Prim.Native.Nat.{_-_}
 use native.Mathlib.Nat.{le-refl}
 use native.Mathlib.Omega.{arith}
 use lib.ListN.{length}
-use Rattle.trace.proofs.Spellings.{next-spelled, next-length}
-use Rattle.trace.proofs.PutNumbers.{Left, left-none, left-room, left-turn}
+use Rattle.trace.proofs.spelling.Laws.{next-spelled, next-length}
+use Rattle.trace.proofs.spelling.Turns.{Left, left-none, left-room, left-turn}
 use Rattle.trace.proofs.spelling.put_numbers.Statement.{statement}
 use Rattle.trace.proofs.spelling.put_numbers.Tie as tie
 

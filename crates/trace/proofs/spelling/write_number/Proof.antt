@@ -6,8 +6,8 @@ use lib.ListN.{length, length-set}
 use Rattle.trace.specs.Spelling.{spelling}
 use Rattle.trace.specs.Writing.{put}
 use Rattle.trace.specs.Bounds.{numberLimit}
-use Rattle.trace.proofs.Spellings.{spelling-short, spelling-low, spelling-high, length-low, length-high}
-use Rattle.trace.proofs.Puts.{put-cons, put-byte}
+use Rattle.trace.proofs.spelling.Laws.{spelling-short, spelling-low, spelling-high, length-low, length-high}
+use Rattle.trace.proofs.spelling.Puts.{put-cons, put-byte}
 use Rattle.trace.proofs.spelling.write_number.Statement.{statement}
 use Rattle.trace.proofs.spelling.write_number.Tie as tie
 

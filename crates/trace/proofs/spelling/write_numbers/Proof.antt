@@ -1,7 +1,7 @@
 -- `trace::spelling::write_numbers` meets its contract: each way out is a case of `spaced`. Assumes nothing.
 use mathlib.Core.Path.{refl}
 use borrow.Author.Needs.{needs}
-use Rattle.trace.proofs.Writings.{past-end, no-space, space}
+use Rattle.trace.proofs.spelling.Spaces.{past-end, no-space, space}
 use Rattle.trace.proofs.spelling.write_numbers.Statement.{statement}
 use Rattle.trace.proofs.spelling.write_numbers.Tie as tie
 

@@ -1,0 +1,2 @@
+-- Laws that serve the functions of `card::step` alone.
+mod Cases

@@ -1,0 +1,4 @@
+pub mod Sums
+pub mod Bumps
+pub mod OneRead
+pub mod Turns

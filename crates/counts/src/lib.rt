@@ -1,0 +1,2 @@
+// The counts of each size, from tallies.
+pub mod tallies;

@@ -1,0 +1,4 @@
+pub mod Widths
+pub mod NewPlaces
+pub mod HeldReads
+pub mod ListedStretches

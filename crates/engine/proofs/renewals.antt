@@ -1,0 +1,4 @@
+-- Laws of one row after a read.
+pub mod Sources
+pub mod Ways
+pub mod RowSteps

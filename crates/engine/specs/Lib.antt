@@ -1,0 +1,9 @@
+pub mod Rows
+pub mod Moves
+pub mod Totals
+pub mod Lists
+pub mod Starts
+pub mod RowMoves
+pub mod Renewals
+pub mod Sweeps
+pub mod OneRead

@@ -1,0 +1,3 @@
+// What every run does around its events.
+pub mod answers;
+pub mod areas;

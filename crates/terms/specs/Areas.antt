@@ -1,0 +1,12 @@
+-- What a lent area holds.
+use Prim.Native.Nat.{ℕ}
+use mathlib.Core.List.{List, _++_}
+use lib.ListN.{length, drop, replicate}
+
+-- so many zeros
+abbrev pub zeros : ℕ → List ℕ
+zeros n = replicate n 0
+
+-- a part at the front of an area in the place of what was there
+abbrev pub fronted : List ℕ → List ℕ → List ℕ
+fronted front area = front ++ drop (length front) area

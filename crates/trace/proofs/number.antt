@@ -1,0 +1,3 @@
+-- What serves the reader of numbers.
+pub mod Laws
+pub mod Cases
