@@ -27,7 +27,7 @@ use Rattle.pass.specs.declared.answers.Ran.{Ran}
 use Rattle.pass.proofs.Frames as frames
 use Rattle.pass.proofs.OneAnswer.{one-ran}
 use Rattle.sizes.specs.Outcome.{Areas, Outcome, isRoom, roomGate, reportOf, emptied, frameOf, runOf}
-use Rattle.sizes.specs.Answers.{AreasAre}
+use Rattle.sizes.specs.Answers.{areasOf, AreasAre}
 
 -- ---- an accepted trace
 
@@ -142,6 +142,13 @@ Meets o r blocks stretches counts = (ranAnswer r ≡ o .answer) × AreasAre (o .
 pub areas-determined : (areas : Areas) (b s c b′ s′ c′ : List ℕ) → AreasAre areas b s c → AreasAre areas b′ s′ c′ → (b ≡ b′) × (s ≡ s′) × (c ≡ c′)
 areas-determined areas b s c b′ s′ c′ e f = (one-value (e .0) (f .0), one-value (e .1) (f .1), one-value (e .2) (f .2))
 
+-- three lists that are as they should be left are the areas
+areas-of : (areas : Areas) (b s c : List ℕ) → AreasAre areas b s c → areasOf b s c ≡ areas
+areas-of areas b s c e = rw (e .0, e .1, e .2)
+
 pub run-determined : (bytes : List ℕ) (areas : Areas) (x y : Ran) (b s c b′ s′ c′ : List ℕ)
     → Meets (runOf bytes areas) x b s c → Meets (runOf bytes areas) y b′ s′ c′ → (x ≡ y) × ((b ≡ b′) × (s ≡ s′) × (c ≡ c′))
-run-determined bytes areas x y b s c b′ s′ c′ e f = (one-ran x y (one-value (e .0) (f .0)), areas-determined (runOf bytes areas .areas) b s c b′ s′ c′ (e .1) (f .1))
+run-determined bytes areas x y b s c b′ s′ c′ e f =
+    let o = runOf bytes areas in
+    let same = frames.determined ranAnswer one-ran o x y (areasOf b s c) (areasOf b′ s′ c′) (e .0, areas-of (o .areas) b s c (e .1)) (f .0, areas-of (o .areas) b′ s′ c′ (f .1)) in
+    (same .0, (ap (λ (a : Areas). a .blocks) (same .1), ap (λ (a : Areas). a .stretches) (same .1), ap (λ (a : Areas). a .counts) (same .1)))
