@@ -213,7 +213,7 @@ int main(void) {
         cards[m].top = cards[m].row + ABOVE;
     for (; at < length; reads++) {
         u64 block = number_of(key(&at));
-        one_read(size, block, number(&at));
+        one_read(size, block, asked(&at));
     }
     finish(size, reads);
     tell_run(size, reads, 0, 0);

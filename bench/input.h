@@ -40,6 +40,19 @@ static inline u64 key(u64 *at) {
     return (volume << 32) + number(at) + 1;
 }
 
+/* The place that a record asks for by its priority: a read without a hint has 0, and asks for the top. */
+static inline u64 asked(u64 *at) {
+    u64 priority = number(at);
+    return priority == 0 ? 1 : priority;
+}
+
+/* The same, and the compiler does not learn that it is at least 1: in b and d it makes longer code of that. */
+static inline u64 asked_unknown(u64 *at) {
+    u64 place = asked(at);
+    __asm__("" : "+r"(place));
+    return place;
+}
+
 static char line[16 * (KINDS * LARGEST + 8)];
 static u64 told;
 

@@ -311,8 +311,8 @@ int main(void) {
     for (u64 i = 0; i < n; i++)
         set_pair(i, i + 1, i + 1);
     for (; at < length; reads++) {
-        u64 block = key(&at), priority = number(&at);
-        one_read(&access, block, priority);
+        u64 block = key(&at);
+        one_read(&access, block, asked_unknown(&at));
     }
     finish(n, reads);
     tell_run(n, reads, sums.peak, sums.one);

@@ -113,7 +113,7 @@ int main(void) {
     u64 size = number(&at);
     for (; at < length; reads++) {
         u64 block = key(&at);
-        one_read(size, block, number(&at));
+        one_read(size, block, INCLUSION ? asked(&at) : asked_unknown(&at));
     }
     count_bypasses(size, reads);
     tell_run(size, reads, 0, 0);

@@ -11,8 +11,9 @@ READS = {8: 1000, 32: 600, 127: 500}
 # What fills the areas before a run. Zeros would do, but the proved run's program leaves out what is as before.
 FILL = 255
 POOLS = {'N/2': lambda n: n // 2, '2N': lambda n: 2 * n, '8N': lambda n: 8 * n}
+# The largest priority of each kind; the least is 1, but for reads without a hint, which have 0.
 PRIORITIES = {
-    '1': lambda n: 1,
+    '0': lambda n: 0,
     '1..N/8': lambda n: max(1, n // 8),
     '1..N/2': lambda n: n // 2,
     '1..N': lambda n: n,
@@ -33,7 +34,7 @@ def trace(size, pool, priorities, reads):
     data = bytearray(header(size))
     for _ in range(reads):
         low = priorities == 'skewed' and pick.random() < 0.9
-        priority = 1 if low else pick.randint(1, largest)
+        priority = 1 if low else pick.randint(min(1, largest), largest)
         data += form.spell(0) + form.spell(pick.randrange(blocks)) + form.spell(priority)
     return bytes(data)
 

@@ -68,14 +68,14 @@ def picking_run(pick):
 
 
 def plain_lru_day(pick):
-    """A tray without hints: every read asks for the top of the card."""
+    """A tray without hints: every priority is 0, and every read comes to the top of the card."""
     blocks, reads = 96, (260, 180)
     yield 'A day without hints, on volume 1 and then on volume 2; both have blocks 0 to %d.' % (blocks - 1)
     yield 'Blocks with small numbers are read far more often than the others.'
     yield 32,
     for volume, count in enumerate(reads, 1):
         for _ in range(count):
-            yield volume, skewed(pick, blocks), 1
+            yield volume, skewed(pick, blocks), 0
 
 
 def text(parts):

@@ -4,6 +4,9 @@
  * each a pointer and then its length: the length counts elements, not bytes. A pointer is never null and is aligned for
  * its elements, even where its length is 0. An area that a call writes overlaps no other area of that call.
  *
+ * A read has a volume from 0 to 65,535, a block from 0 to 4,294,967,295 and a priority from 0 to 16,383. One without a
+ * hint has priority 0: on a card it acts as 1, and it is read, told and written as 0.
+ *
  * An answer is 0, or the number of a refusal. Further values go into `out`, from its first number on, as far as they
  * fit: an `out` may have any length, 0 too, and what is left of it keeps its values. */
 #ifndef SUPHAROEK_H
@@ -24,7 +27,7 @@ enum supharoek_refusal {
     SUPHAROEK_EDITION = 3,  /* an edition that is not 1 */
     SUPHAROEK_SIZE = 4,     /* a largest size outside 1 to 127 */
     SUPHAROEK_VOLUME = 5,   /* a volume over 65,535 */
-    SUPHAROEK_PRIORITY = 6, /* a priority of 0, or over 16,383 */
+    SUPHAROEK_PRIORITY = 6, /* a priority over 16,383 */
     SUPHAROEK_ROOM = 7,     /* a lent area that is too short; its place is 0 */
     SUPHAROEK_SPACE = 8,    /* a buffer that is too short from the offset on */
     SUPHAROEK_STATE = 9,    /* a size and places that are no card */

@@ -30,7 +30,7 @@ def refusal(size, places, volume, priority):
         return STATE
     if volume > 65535:
         return VOLUME
-    if not 1 <= priority <= 16383:
+    if priority > 16383:
         return PRIORITY
     return None
 
@@ -80,6 +80,7 @@ def ratio(misses, reads):
 def tell():
     run(3, ((0, 10, 3), (0, 11, 3)))
     run(2, ((1, 7, 1), (2, 7, 1)))
+    run(2, [(1, block, priority) for block, priority in ((10, 0), (11, 0), (10, 0), (10, 1), (10, 0), (12, 0), (11, 0))])
     for size in (5, 6, 4):
         run(size, [(0, block, priority) for block, priority in paper.READS])
     for time, block in ((1, 1), (2, 1), (2, 2), (4, 1), (4, 2), (5, 1), (5, 2), (7, 1), (8, 1)):
@@ -88,9 +89,9 @@ def tell():
         one(size, 0, 1, 1)
     for full in ([(2, 9)], [(3, 9)], [(126, 9)], [(1, LARGEST_KEY)], [(1, LARGEST_KEY + 1)], [(0, 9), (2, 9)], [(1, 9), (2, 9)], []):
         one(3, 0, 1, 1, full)
-    for volume, block, priority in ((65535, 2 ** 32 - 1, 1), (65536, 0, 1), (1, 0, 0), (1, 0, 16383), (1, 0, 16384), (65536, 0, 0)):
+    for volume, block, priority in ((65535, 2 ** 32 - 1, 1), (65536, 0, 1), (1, 0, 0), (1, 0, 16383), (1, 0, 16384), (65536, 0, 0), (65536, 0, 16384)):
         one(2, volume, block, priority)
-    one(0, 65536, 0, 0)
+    one(0, 65536, 0, 16384)
     places = [0] * 126 + [9]
     read(127, places, 0, 8, 127)
     read(127, places, 0, 8, 128)

@@ -9,16 +9,17 @@ UP, SAME, DOWN, HIT_BYPASS, INSERT, MISS_BYPASS = range(6)
 def read(card, block, priority):
     """The outcome of a read, which changes the list: blocks are any values but None, which is an empty place."""
     size = len(card)
+    asked = priority or 1  # a read without a hint has priority 0, and asks for the top
     hit = block in card
     place = card.index(block) + 1 if hit else None
     if hit:
         card.remove(block)
         card.append(None)
-    if priority <= size:
-        card.insert(priority - 1, block)
+    if asked <= size:
+        card.insert(asked - 1, block)
         card.pop()
     if not hit:
-        return INSERT if priority <= size else MISS_BYPASS
-    if priority > size:
+        return INSERT if asked <= size else MISS_BYPASS
+    if asked > size:
         return HIT_BYPASS
-    return SAME if priority == place else UP if priority < place else DOWN
+    return SAME if asked == place else UP if asked < place else DOWN

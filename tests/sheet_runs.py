@@ -30,7 +30,7 @@ def stated_cases():
     yield bytes.fromhex('8000'), 'refused 2 at 0\n'
     yield bytes.fromhex('0103808004'), 'refused 5 at 2\n'
     yield bytes.fromhex('0103010a'), 'refused 1 at 4\n'
-    yield bytes.fromhex('0103010a00'), 'refused 6 at 4\n'
+    yield bytes.fromhex('0103010a00'), 'accesses 1 stretches 1 block 1\n' + ''.join('%d 1 0 0 0 0 1 0\n' % m for m in (1, 2, 3))
     yield bytes.fromhex('0103010aff7f'), 'accesses 1 stretches 0 block 0\n' + ''.join('%d 1 0 0 0 0 0 1\n' % m for m in (1, 2, 3))
     yield bytes.fromhex('0103010a808001'), 'refused 6 at 4\n'
     yield bytes(16385), 'refused 10 at 16384\n'
@@ -44,7 +44,7 @@ def longest():
     while len(data) < sheet_rule.LARGEST_INPUT - 10:
         # a read that is done again is the same at every size that has it
         if not read or pick.random() < 0.8:
-            priority = pick.choice((pick.randint(1, 3), pick.randint(1, 127), pick.randint(64, 127), 127))
+            priority = pick.choice((pick.randint(0, 3), pick.randint(1, 127), pick.randint(64, 127), 127))
             read = form.spell(0) + form.spell(pick.randrange(64)) + form.spell(priority)
         data += read
     left = sheet_rule.LARGEST_INPUT - len(data)

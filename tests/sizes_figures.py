@@ -13,8 +13,10 @@ import trace_format as form
 from sheet_rule import WORKED, WORKED_PLACES, reads_of
 
 SHEET = 'done 8 3 2 3 0 12 0 counts 0 0 0 1 2 5 1 0 0 2 3 2 0 1 2 1 4 0'
-# traces at the borders of what is refused; the one with the largest priority is accepted
+# traces at the borders of what is refused; those with the least and the largest priority are accepted
 BORDERS = ('', '0100', '018001', '0200', '0103808004', '0103010a', '0103010a00', '0103010aff7f', '0103010a808001', '0103010a8000', '018000')
+# blocks with their priorities: all six outcomes occur, and a block has two stretches
+NO_HINTS = ((5, 0), (4, 4), (3, 0), (3, 0), (3, 0), (4, 0), (6, 0), (6, 4), (3, 3), (5, 4), (3, 0), (5, 0))
 
 cases = []
 
@@ -26,6 +28,11 @@ def case(data, lent, value=9):
 def paper_case(time, size=7):
     """The paper's trace up to a time."""
     return form.trace(size, [(0, *read) for read in paper.READS[:time]]), rule.stated(size)
+
+
+def no_hints_case(written):
+    """Reads most of which have no hint, with 0 as it is or written as 1."""
+    return form.trace(4, [(0, block, priority or written) for block, priority in NO_HINTS]), rule.stated(4)
 
 
 def fill():
@@ -40,11 +47,13 @@ def fill():
         case(*paper_case(len(paper.READS), size))
     case(form.trace(2, ((1, 7, 1), (2, 7, 1))), rule.stated(2))
     case(form.trace(3, ((0, 10, 3), (0, 11, 3))), rule.stated(3))
+    for written in (0, 1):
+        case(*no_hints_case(written))
     for text in BORDERS:
         case(bytes.fromhex(text), rule.stated(3))
     # a fault after reads leaves zeros, whatever the reads left
     case(WORKED + b'\x01', rule.stated(3))
-    case(WORKED + bytes.fromhex('010a00'), rule.stated(3), 255)
+    case(WORKED + bytes.fromhex('010a808001'), rule.stated(3), 255)
     case(form.trace(127, ((65535, 2 ** 32 - 1, 127), (0, 0, 16383))), rule.stated(127))
 
 
@@ -75,4 +84,6 @@ check_worked_places(tally)
 tally.lines(lines, 'sizes_test')
 for whose, told in (('the simulation', lines), ('the proved run', compare.stored('sizes_test'))):
     paper.check_distances(tally, whose, outcomes(told))
+    as_it_is, as_one = (told[cases.index((*no_hints_case(written), 9))] for written in (0, 1))
+    tally.equal('%s with 0 and with 1' % whose, as_it_is, as_one)
 sys.exit(tally.end())

@@ -33,12 +33,13 @@ def some_block(pick, volumes, pool):
 def make_trace(pick, size, length):
     volumes = pick.choice((1, 1, 3))
     pool = pick.choice((size // 2 + 1, 2 * size, 8 * size))
-    kind = pick.choice(('one', 'small', 'half', 'size', 'twice', 'any', 'mostly one'))
-    tops = {'one': 1, 'small': max(1, size // 8), 'half': max(1, size // 2), 'twice': 2 * size, 'any': 16383}
-    top = tops.get(kind, size)
+    kind = pick.choice(('none', 'one', 'none or one', 'small', 'half', 'size', 'twice', 'any', 'mostly none', 'mostly one'))
+    tops = {'none': 0, 'one': 1, 'none or one': 1, 'small': max(1, size // 8), 'half': max(1, size // 2),
+            'twice': 2 * size, 'any': 16383}
+    least, top = int(kind in ('one', 'mostly one')), tops.get(kind, size)
     reads = []
     for _ in range(length):
-        priority = 1 if kind == 'mostly one' and pick.random() < 0.9 else pick.randint(1, top)
+        priority = least if kind.startswith('mostly') and pick.random() < 0.9 else pick.randint(least, top)
         reads.append((*some_block(pick, volumes, pool), priority))
     return form.trace(size, reads)
 
@@ -95,7 +96,7 @@ def cases(pick):
         yield make_case(pick, size, size)
     for size in CLIMBS:
         yield climb(pick, size, size), rule.stated(size), pick.randint(1, 255)
-    reads = [(0, pick.randint(1, 4) if i % 2 else i, pick.randint(1, 4)) for i in range(LONG_READS)]
+    reads = [(0, pick.randint(1, 4) if i % 2 else i, pick.randint(0, 4)) for i in range(LONG_READS)]
     yield form.trace(3, reads), rule.stated(3), pick.randint(1, 255)
 
 

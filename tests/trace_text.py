@@ -33,19 +33,19 @@ BAD_TEXTS = (
     ('2 0', 'line 1: edition 2 is not 1 (refusal 3, EDITION)'),
     ('1 0', 'line 1: size 0 is not from 1 to 127 (refusal 4, SIZE)'),
     ('1 128', 'line 1: size 128 is not from 1 to 127 (refusal 4, SIZE)'),
-    ('1 5\n65536 0 0\n', 'line 2: volume 65536 is not from 0 to 65535 (refusal 5, VOLUME)'),
+    ('1 5\n65536 0 16384\n', 'line 2: volume 65536 is not from 0 to 65535 (refusal 5, VOLUME)'),
     ('1 5\n4294967296 0 1', 'line 2: volume 4294967296 is not from 0 to 65535 (refusal 5, VOLUME)'),
     ('1 5\n1 4294967296 1', 'line 2: block 4294967296 is not from 0 to 4294967295 (the format cannot spell it)'),
-    ('1 5\n1 4294967296 0', 'line 2: block 4294967296 is not from 0 to 4294967295 (the format cannot spell it)'),
+    ('1 5\n1 4294967296 16384', 'line 2: block 4294967296 is not from 0 to 4294967295 (the format cannot spell it)'),
     ('1 5\n1 %s 1' % LONG, 'line 2: block %s... is not from 0 to 4294967295 (the format cannot spell it)' % LONG[:40]),
-    ('# a\n1 5\n\n1 1 1\n1 2 1\n1 3 1\n1 4 0', 'line 7: priority 0 is not from 1 to 16383 (refusal 6, PRIORITY)'),
-    ('1 5\n1 1 16384 # high', 'line 2: priority 16384 is not from 1 to 16383 (refusal 6, PRIORITY)'),
-    ('1 5\r\n1 1 000\r\n', 'line 2: priority 000 is not from 1 to 16383 (refusal 6, PRIORITY)'),
+    ('# a\n1 5\n\n1 1 1\n1 2 0\n1 3 1\n1 4 65536', 'line 7: priority 65536 is not from 0 to 16383 (refusal 6, PRIORITY)'),
+    ('1 5\n1 1 16384 # high', 'line 2: priority 16384 is not from 0 to 16383 (refusal 6, PRIORITY)'),
+    ('1 5\r\n1 1 0016384\r\n', 'line 2: priority 0016384 is not from 0 to 16383 (refusal 6, PRIORITY)'),
     ('1 5\n1 1', 'line 2: 2 numbers, but a read has 3 (volume block priority)'),
     ('1 5\n1 1 # 1', 'line 2: 2 numbers, but a read has 3 (volume block priority)'),
     ('1 5\n1', 'line 2: 1 number, but a read has 3 (volume block priority)'),
     ('1 5\n1 1 1 1', 'line 2: 4 numbers, but a read has 3 (volume block priority)'),
-    ('1 5\n1 1 0\n1 x 1', 'line 2: priority 0 is not from 1 to 16383 (refusal 6, PRIORITY)'),
+    ('1 5\n1 1 16384\n1 x 1', 'line 2: priority 16384 is not from 0 to 16383 (refusal 6, PRIORITY)'),
     ('1 5\n1,1,1', "line 2: '1,1,1' is not a number in decimal digits"),
     ('1 5\n1 %s 1' % ('x' * 60), "line 2: '%s... is not a number in decimal digits" % ('x' * 39)),
 )
@@ -56,6 +56,8 @@ BAD_WORDS = (b'+1', b'-1', b'1_0', b'0x1', b'1e1', b'1.0', b'a', b"'", b'\x00', 
 GOOD_TEXTS = (
     ('1 5', '0105'),
     ('1 127\n65535 4294967295 16383\n0 0 1\n', '017fffff03ffffffff0fff7f000001'),
+    ('1 3\n1 10 0\n', '0103010a00'),
+    ('1 5\n1 10 0\n1 10 1\n0 0 000\n1 10 2', '0105010a00010a01000000010a02'),
     ('# first\n\n  1\t5  # header\n \t \n#\n1 10 1#read\n# 1 11 1\n1 10 2 # 3 # 4\n', '0105010a01010a02'),
     ('1 5\r\n1 10 1\r\n', '0105010a01'),
     ('1 5\r1 10 1\r', '0105010a01'),
@@ -105,7 +107,7 @@ def make_case(pick):
     size = pick.randint(1, form.LARGEST_SIZE)
     lines = [(1, size)]
     for _ in range(pick.choice((0, 1, 2, 5, 30))):
-        priority = max(1, number(pick, form.LARGEST_PRIORITY))
+        priority = pick.choice((0, 1, number(pick, form.LARGEST_PRIORITY), number(pick, form.LARGEST_PRIORITY)))
         lines.append((number(pick, form.LARGEST_VOLUME), number(pick, form.LARGEST_NUMBER), priority))
     text = ''.join(' '.join(map(str, line)) + '\n' for line in lines)
     return text.encode(), b''.join(form.spell(value) for line in lines for value in line)
@@ -245,7 +247,7 @@ def uses(folder):
     """Help, wrong use and a closed pipe."""
     status, told, said = run('--help')
     check('help', (0, ''), (status, said))
-    for words in ('write [TEXT [TRACE]]', 'read [TRACE [TEXT]]', 'priority from 1 to 16383', 'printf'):
+    for words in ('write [TEXT [TRACE]]', 'read [TRACE [TEXT]]', 'priority from 0 to 16383', 'without a hint', 'printf'):
         check('help says %s' % words, True, words in told.decode())
     check('help after a word', (0, told, ''), run('write', '--help'))
     for wrong in ((), ('turn',), ('write', 'a', 'b', 'c'), ('read', '--fast'), ('write', 'a', '-x')):
@@ -273,6 +275,8 @@ def examples(folder):
             check('%s of its text' % name, (0, stored, ''), run('write', (EXAMPLES / name).with_suffix('.text')))
             check('%s by the second reading' % name, None, whole(stored))
             check('%s is small' % name, True, len(stored) <= LARGEST_TRACE)
+    reads = [line.split() for line in (EXAMPLES / 'plain-lru-day.text').read_text().splitlines() if line[:1].isdigit()][1:]
+    check('a day without hints', {'0'}, {priority for volume, block, priority in reads})
 
 
 def main():

@@ -10,7 +10,7 @@ struct range {
 
 static const struct range header[] = {{1, 1, SUPHAROEK_EDITION}, {1, 127, SUPHAROEK_SIZE}};
 static const struct range record[] = {
-    {0, 65535, SUPHAROEK_VOLUME}, {0, UINT32_MAX, 0}, {1, 16383, SUPHAROEK_PRIORITY}};
+    {0, 65535, SUPHAROEK_VOLUME}, {0, UINT32_MAX, 0}, {0, 16383, SUPHAROEK_PRIORITY}};
 
 /* The bytes of the number at a place with its last one, or 0 where the trace ends before it does. */
 static size_t number_length(const uint8_t *bytes, size_t length, size_t at) {

@@ -23,7 +23,7 @@ enum {
 static void make_long(struct trace *trace) {
     begin_trace(trace, SMALL_SIZE, LONG_READS + 1);
     for (size_t i = 0; i < LONG_READS; i++)
-        add_read(trace, from_to(0, 1), i % 8 ? from_to(1, MOST_SMALL) : i, from_to(1, SMALL_SIZE + 1));
+        add_read(trace, from_to(0, 1), i % 8 ? from_to(1, MOST_SMALL) : i, from_to(0, SMALL_SIZE + 1));
 }
 
 void check_many_reads(void) {
@@ -36,7 +36,7 @@ void check_many_reads(void) {
     for (size_t i = SUPHAROEK_COUNTS(SMALL_SIZE - 1); i < SUPHAROEK_COUNTS(SMALL_SIZE); i++)
         check(expected.counts[i] > 65536, "counts over 65,536 of the largest size", i);
     end_case();
-    add_read(&trace, 1, 1, 0);
+    add_read(&trace, 1, 1, 16384);
     check(check_both(&trace, lengths, LONG_READS).told[0] > SEVEN_DIGITS, "a refusal at a far place", LONG_READS);
     end_case();
     drop_trace(&trace);

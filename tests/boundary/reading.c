@@ -80,7 +80,6 @@ static const struct stated records[] = {
     {"\x01\x0a\x80", 3, SUPHAROEK_CUT, 2},
     {"\x80\x80\x04", 3, SUPHAROEK_VOLUME, 0},
     {"\x01\x80\x80\x80\x80\x80", 6, SUPHAROEK_FORM, 1},
-    {"\x01\x0a\x00", 3, SUPHAROEK_PRIORITY, 2},
     {"\x01\x0a\x80\x80\x01", 5, SUPHAROEK_PRIORITY, 2},
     {"\x01\x0a\x81\x80\x04", 5, SUPHAROEK_PRIORITY, 2},
     {"\x81\x80\x04\x0a\x01", 5, SUPHAROEK_VOLUME, 0},
@@ -95,6 +94,19 @@ static void check_stated(reader *call, const struct stated *stated, size_t count
     }
 }
 
+/* Both ends of the priorities and their neighbours, told as they stand there: a read without a hint has 0. */
+static void check_priorities(void) {
+    static const uint64_t priorities[] = {0, 1, 2, 127, 128, 16382, 16383};
+    for (size_t i = 0; i < sizeof priorities / sizeof *priorities; i++) {
+        uint8_t bytes[ROOM] = {1, 10};
+        size_t length = 2 + spell(bytes + 2, priorities[i]);
+        const struct expected expected = {0, 4, {1, 10, priorities[i], length}};
+        check_read(supharoek_read_record, bytes, length, 4, expected);
+        check_read(supharoek_read_record, bytes, ROOM, 4, expected);
+        end_case();
+    }
+}
+
 /* Right numbers, now and then with one byte changed or the last one off. */
 static void check_spelled(void) {
     uint8_t bytes[2 * ROOM];
@@ -102,7 +114,7 @@ static void check_spelled(void) {
     size_t length = spell_header(bytes, from_to(0, 4) ? 1 : from_to(0, wide), from_to(0, 140));
     check_header(bytes, length - from_to(0, 3) / 3);
     uint64_t volume = from_to(0, 70000), block = from_to(0, UINT32_MAX) >> from_to(0, 31);
-    length = spell_record(bytes, volume, block, from_to(0, wide));
+    length = spell_record(bytes, volume, block, from_to(0, 3) ? from_to(0, wide) : from_to(0, 2));
     if (from_to(0, 1))
         bytes[from_to(0, length - 1)] = (uint8_t)chance();
     check_record(bytes, length - from_to(0, 3) / 3);
@@ -132,6 +144,7 @@ void check_reading(void) {
     check_long_part();
     check_stated(supharoek_read_header, headers, sizeof headers / sizeof *headers);
     check_stated(supharoek_read_record, records, sizeof records / sizeof *records);
+    check_priorities();
     for (int i = 0; i < ROUNDS; i++) {
         check_spelled();
         check_noise();

@@ -16,8 +16,10 @@ static void check_short(struct trace *trace) {
             lengths[i / 2] = i % 2 ? 0 : lengths[i / 2] - 1;
             make_trace(trace, n, FEW_READS, 1);
             if (n % 2)
-                add_read(trace, 1, 1, 0);
+                add_read(trace, 1, 1, 16384);
             check(check_both(trace, lengths, n).number == SUPHAROEK_ROOM, "no room", n);
+            stated_lengths(lengths, n);
+            check(expected_of(trace, lengths).number == (n % 2 ? SUPHAROEK_PRIORITY : 0), "what comes after room", n);
             end_case();
         }
 }

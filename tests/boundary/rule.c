@@ -35,6 +35,9 @@ static uint64_t miss_on(uint64_t *card, size_t size, uint64_t key, uint64_t prio
 
 uint64_t read_on(uint64_t *card, size_t size, uint64_t key, uint64_t priority) {
     size_t place = place_on(card, size, key);
+    /* a read without a hint asks for the top */
+    if (priority == 0)
+        priority = 1;
     if (place == 0)
         return miss_on(card, size, key, priority);
     if (priority > size) {

@@ -26,7 +26,10 @@ static const struct stated sheets[] = {
     {"\x01\x80\x01", 3, "refused 4 at 1\n"},
     {"\x01\x03\x80\x80\x04", 5, "refused 5 at 2\n"},
     {"\x01\x03\x01\x0a", 4, "refused 1 at 4\n"},
-    {"\x01\x03\x01\x0a\x00", 5, "refused 6 at 4\n"},
+    {"\x01\x03\x01\x0a\x00", 5,
+     "accesses 1 stretches 1 block 1\n1 1 0 0 0 0 1 0\n2 1 0 0 0 0 1 0\n3 1 0 0 0 0 1 0\n"},
+    {"\x01\x02\x01\x0a\x00\x01\x0b\x00\x01\x0a\x00\x01\x0a\x01", 14,
+     "accesses 4 stretches 2 block 1\n1 3 0 1 0 0 3 0\n2 2 1 1 0 0 2 0\n"},
     {"\x01\x03\x01\x0a\xff\x7f", 6,
      "accesses 1 stretches 0 block 0\n1 1 0 0 0 0 0 1\n2 1 0 0 0 0 0 1\n3 1 0 0 0 0 0 1\n"},
     {"\x01\x03\x01\x0a\x80\x80\x01", 7, "refused 6 at 4\n"},
@@ -70,9 +73,27 @@ static void check_place(size_t size, size_t place) {
     end_case();
 }
 
+/* Steps without a hint on a card of two places, as plain LRU has them: each outcome, and the places after it. */
+static void check_no_hints(void) {
+    static const uint64_t reads[][4] = {{10, SUPHAROEK_INSERT, 10, 0},
+                                        {11, SUPHAROEK_INSERT, 11, 10},
+                                        {10, SUPHAROEK_UP, 10, 11},
+                                        {10, SUPHAROEK_SAME, 10, 11},
+                                        {12, SUPHAROEK_INSERT, 12, 10}};
+    uint64_t places[SUPHAROEK_LARGEST] = {0}, outcome;
+    for (size_t i = 0; i < sizeof reads / sizeof *reads; i++) {
+        uint32_t answer = supharoek_step(2, places, SUPHAROEK_LARGEST, 0, (uint32_t)reads[i][0], 0, &outcome, 1);
+        check(answer == 0 && outcome == reads[i][1], "the outcome of a step without a hint", i);
+        check(places[0] == key_of(0, reads[i][2]), "the top after a step without a hint", i);
+        check(places[1] == (reads[i][3] ? key_of(0, reads[i][3]) : 0), "the place below it", i);
+    }
+    end_case();
+}
+
 void check_what_is_stated(void) {
     for (size_t i = 0; i < sizeof sheets / sizeof *sheets; i++)
         check_stated(&sheets[i], i);
     check_place(2, 2);
     check_place(3, 1);
+    check_no_hints();
 }

@@ -144,13 +144,13 @@ static void check_places(struct step step) {
 /* What is wrong is told in the order of the tests: room, state, volume, priority. */
 static void check_order(struct step right) {
     static const uint64_t volumes[] = {65536, 65537, 4294967297, UINT64_MAX};
-    static const uint64_t priorities[] = {0, 16384, 65537, 4294967297, UINT64_MAX};
+    static const uint64_t priorities[] = {16384, 65536, 65537, 4294967296, 4294967297, UINT64_MAX};
     const struct card good = changed(1, 0), bad = changed(1, UINT64_MAX);
     for (size_t i = 0; i < sizeof volumes / sizeof *volumes; i++) {
         struct step step = right;
         step.volume = volumes[i];
         check_refused(good, PLACES, step, SUPHAROEK_VOLUME);
-        step.priority = 0;
+        step.priority = 16384;
         check_refused(good, PLACES, step, SUPHAROEK_VOLUME);
         check_refused(bad, PLACES, step, SUPHAROEK_STATE);
         check_refused(bad, PLACES - 1, step, SUPHAROEK_ROOM);

@@ -47,6 +47,12 @@ static uint64_t some_priority(size_t n, int kind) {
         return from_to(1, 10) < 10 ? 1 : from_to(1, n);
     case 6:
         return from_to(1, 3) < 3 ? from_to((n + 1) / 2, n + 1) : 16383;
+    case 7:
+        return 0;
+    case 8:
+        return from_to(0, 1);
+    case 9:
+        return from_to(0, 1) ? 0 : from_to(0, n + 2);
     default:
         return some_priority(n, (int)from_to(0, PRIORITY_KINDS - 2));
     }
@@ -131,7 +137,7 @@ void damage(struct trace *trace, int way) {
         put_in_record(trace, from_to(65536, UINT32_MAX), 1, 1);
         break;
     case 7:
-        put_in_record(trace, 1, UINT32_MAX, from_to(0, 1) ? 0 : from_to(16384, UINT32_MAX));
+        put_in_record(trace, 1, UINT32_MAX, from_to(0, 1) ? 16384 : from_to(16384, UINT32_MAX));
         break;
     case 8:
         change_header(trace, from_to(0, 300), 3);

@@ -5,7 +5,7 @@
 #include <stddef.h>
 #include <stdint.h>
 
-enum { PRIORITY_KINDS = 8, DAMAGES = 10 };
+enum { PRIORITY_KINDS = 11, DAMAGES = 10 };
 
 /* Begun with all zeros. */
 struct trace {

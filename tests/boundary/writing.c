@@ -27,7 +27,7 @@ static uint32_t header_refusal(const uint64_t *numbers) {
 static uint32_t record_refusal(const uint64_t *numbers) {
     if (numbers[0] > 65535)
         return SUPHAROEK_VOLUME;
-    return numbers[2] >= 1 && numbers[2] <= 16383 ? 0 : SUPHAROEK_PRIORITY;
+    return numbers[2] <= 16383 ? 0 : SUPHAROEK_PRIORITY;
 }
 
 static struct item header_item(uint64_t edition, uint64_t size) {
@@ -131,21 +131,34 @@ static void check_wrong_items(void) {
         header_item(1, 128),        header_item(UINT64_MAX, 1),   header_item(1, UINT64_MAX),
         header_item(4294967297, 5), header_item(1, 4294967297),   header_item(257, 5),
         header_item(65537, 5),      header_item(1, 257),          header_item(1, 65541),
-        record_item(65536, 1, 0),   record_item(1, 1, 0),         record_item(1, 1, 16384),
-        record_item(1, 1, 65537),   record_item(UINT64_MAX, 1, 1), record_item(65537, 1, 1),
-        record_item(4294967296, 1, 1), record_item(1, 1, 4294967297),
+        record_item(65536, 1, 0),   record_item(65536, 1, 16384), record_item(1, 1, 16384),
+        record_item(1, 1, 65536),   record_item(1, 1, 65537),     record_item(UINT64_MAX, 1, 1),
+        record_item(65537, 1, 1),   record_item(4294967296, 1, 1), record_item(1, 1, 4294967296),
+        record_item(1, 1, 4294967297),
     };
     for (size_t i = 0; i < sizeof items / sizeof *items; i++)
         check_item(&items[i], i);
 }
 
+/* Both ends of the priorities and their neighbours, each written as it is given, 0 too. */
+static void check_ends_of_priorities(void) {
+    static const uint64_t priorities[] = {0, 1, 2, 16382, 16383};
+    for (size_t i = 0; i < sizeof priorities / sizeof *priorities; i++) {
+        const struct item low = record_item(0, 0, priorities[i]), high = record_item(65535, UINT32_MAX, priorities[i]);
+        check(low.refusal == 0 && high.refusal == 0, "a priority that is taken", priorities[i]);
+        check_item(&low, priorities[i]);
+        check_item(&high, priorities[i]);
+    }
+}
+
 void check_writing(void) {
-    const struct item longest[] = {header_item(1, 127), record_item(65535, UINT32_MAX, 16383)};
-    for (int i = 0; i < 2; i++) {
-        check_far_offsets(&longest[i]);
-        check_large_buffer(&longest[i]);
+    const struct item ends[] = {header_item(1, 127), record_item(65535, UINT32_MAX, 16383), record_item(0, 0, 0)};
+    for (size_t i = 0; i < sizeof ends / sizeof *ends; i++) {
+        check_far_offsets(&ends[i]);
+        check_large_buffer(&ends[i]);
     }
     check_wrong_items();
+    check_ends_of_priorities();
     for (uint64_t n = 1; n <= 127; n++) {
         struct item item = header_item(1, n);
         check_item(&item, n);
@@ -154,7 +167,7 @@ void check_writing(void) {
         uint64_t volume = some_number(), priority = some_number();
         if (from_to(0, 3)) {
             volume %= 65536;
-            priority = 1 + priority % 16383;
+            priority %= 16384;
         }
         struct item item = record_item(volume, (uint32_t)(from_to(0, 9) ? some_number() : UINT32_MAX), priority);
         check_item(&item, i);

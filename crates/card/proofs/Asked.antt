@@ -11,7 +11,7 @@ use Rattle.card.proofs.Tests.{by-lt}
 use Rattle.card.proofs.AfterRead.{length-after}
 use Rattle.card.proofs.Discards.{outcome-past, discard-read}
 
--- a read asks for its priority
+-- a read asks for its priority, and without a hint for the top
 pub asked-read : (m : ℕ) (r : Read) → asked m r ≡ max 1 (r .priority)
 unfolding asked
 asked-read m r = refl

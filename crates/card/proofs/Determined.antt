@@ -69,7 +69,7 @@ read-determined c key p x y d d′ e f = (one-value (e .0) (f .0), one-value (e 
 pub moved-determined : (c : List ℕ) (key j p : ℕ) (d d′ : List ℕ) → d ≡ movedFrom c key j (max 1 p) → d′ ≡ movedFrom c key j (max 1 p) → d ≡ d′
 moved-determined c key j p d d′ e f = one-value e f
 
--- a priority of at least 1
+-- the place that a priority asks for
 pub priority-determined : (p x y : ℕ) → x ≡ max 1 p → y ≡ max 1 p → x ≡ y
 priority-determined p x y e f = one-value e f
 

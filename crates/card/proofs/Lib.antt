@@ -16,6 +16,7 @@ pub mod NextPlaces
 pub mod Blocks
 pub mod StretchBounds
 pub mod Totals
+pub mod Hints
 -- the step, and the contracts
 pub mod ValidStates
 pub mod StepCounts

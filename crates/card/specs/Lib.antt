@@ -1,6 +1,7 @@
 pub mod Rule
 pub mod Moves
 pub mod Run
+pub mod Hints
 pub mod Stretches
 pub mod Falling
 pub mod State

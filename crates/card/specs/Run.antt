@@ -11,7 +11,7 @@ use Rattle.card.specs.Rule.{keyOf, outcomeOn, afterRead}
 abbrev pub blockRead : Read → ℕ
 blockRead r = keyOf (r .volume) (r .block)
 
--- the place that a read asks for on a card of size m: its priority, which is at least 1
+-- the place that a read asks for on a card of size m: its priority; a read without a hint has priority 0, and asks for the top as in plain LRU
 unfoldable pub asked : (m : ℕ) → Read → ℕ
 asked m r = max 1 (r .priority)
 

@@ -123,7 +123,7 @@ fn shift(card: &mut [u64], number: u32, j: usize, p: usize, key: u64)
     }
 }
 
-// A priority is at least 1.
+// The place that a priority asks for: a read without a hint has priority 0, and comes to the top.
 pub fn at_least_one(priority: usize) -> usize
     ensures { λ r. ⌜ r ≡ max 1 priority ⌝ }
 {

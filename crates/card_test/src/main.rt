@@ -79,6 +79,18 @@ fn two_volumes() {
     read(c, 2, 7, 1);
 }
 
+// Reads without a hint, and one with priority 1 between them: plain LRU.
+fn no_hints() {
+    let c = empty(2);
+    let c = read(c, 1, 10, 0);
+    let c = read(c, 1, 11, 0);
+    let c = read(c, 1, 10, 0);
+    let c = read(c, 1, 10, 1);
+    let c = read(c, 1, 10, 0);
+    let c = read(c, 1, 12, 0);
+    read(c, 1, 11, 0);
+}
+
 // The trace of Figures 5 and 6 of the paper; its blocks A to D are 1 to 4.
 fn paper(size: usize) {
     let c = empty(size);
@@ -197,7 +209,8 @@ fn ranges() {
     read(empty(2), 1, 0, 16383);
     read(empty(2), 1, 0, 16384);
     read(empty(2), 65536, 0, 0);
-    read(empty(0), 65536, 0, 0);
+    read(empty(2), 65536, 0, 16384);
+    read(empty(0), 65536, 0, 16384);
 }
 
 fn full_size() {
@@ -243,6 +256,7 @@ fn ratios() {
 fn main() {
     last_place();
     two_volumes();
+    no_hints();
     paper(5);
     paper(6);
     paper(4);

@@ -2,3 +2,4 @@ pub mod Decimals
 pub mod Puts
 pub mod PutCases
 pub mod SheetFacts
+pub mod Hints

@@ -1,3 +1,4 @@
 pub mod Figures
 pub mod RanFacts
 pub mod RoomFacts
+pub mod Hints

@@ -1,10 +1,12 @@
 -- What follows from the run's outcome: of an accepted trace the counts, the misses and the peaks; and that the contract leaves one outcome.
-use mathlib.Core.Path.{_≡_, refl, ap, _∙_}
+use mathlib.Core.Path.{_≡_, refl, ap, subst, _∙_}
 use mathlib.Core.List.{List, [], _∷_, _++_}
-use mathlib.Core.Bool.{true}
+use mathlib.Core.Bool.{Bool, true, false, cond}
 use Prim.Native.Nat.{ℕ, suc, _+_, _-_, _*_, _/_, _≤_, _<_}
 use native.Mathlib.Omega.{arith}
 use lib.ListN.{length, getD, drop, List·getD-append}
+use Rattle.terms.specs.declared.Refusal.the-variants.{Room}
+use Rattle.terms.specs.Refusals.{numberOf}
 use Rattle.terms.specs.Ranges.{size}
 use Rattle.terms.specs.Reads.{Read}
 use Rattle.terms.specs.Areas.{fronted}
@@ -20,7 +22,7 @@ use Rattle.card.proofs.Totals.{total-bound}
 use Rattle.counts.specs.Columns.{columns, cellOf, countsOf}
 use Rattle.counts.proofs.Tables.{counts-length, count-at}
 use Rattle.pass.specs.Outcome as outcome
-use Rattle.pass.specs.Frame.{Open}
+use Rattle.pass.specs.Frame.{Open, Shut}
 use Rattle.pass.specs.Answers.{ranAnswer}
 use Rattle.pass.specs.declared.answers.Report.{Report}
 use Rattle.pass.specs.declared.answers.Ran.{Ran}
@@ -57,30 +59,43 @@ done-accepted bytes areas report d =
 
 -- ---- and every trace with enough room is accepted, whatever blocks it names
 
+-- the outcome of a trace that is accepted, by whether there is room for it
+abbrev pub acceptedIn : Areas → Bool → Trace → Outcome
+acceptedIn areas room t =
+    cond room
+    (outcome.done (reportOf (t .header .size) (t .reads)) (emptied (t .header .size) (countsOf (t .header .size) (t .reads)) areas))
+    (outcome.refused (numberOf Room) 0 areas)
+
 module _ (bytes : List ℕ) (areas : Areas) (t : Trace) (end : ℕ) where
-  abbrev Finishes : Type 0
-  Finishes = runOf bytes areas ≡ outcome.done (reportOf (t .header .size) (t .reads)) (emptied (t .header .size) (countsOf (t .header .size) (t .reads)) areas)
+  -- the run comes to what an accepted trace gives
+  abbrev Comes : Trace → Type 0
+  Comes u = runOf bytes areas ≡ acceptedIn areas (isRoom (u .header .size) areas) u
+
+  by-room : (h : Header) (at : ℕ) → headerAt (size .largest) bytes 0 ≡ Given h at → (rs : List Read) (after : ℕ) → readsFrom (length bytes) bytes at ≡ Given rs after
+      → (room : Bool) → isRoom (h .size) areas ≡ room → runOf bytes areas ≡ acceptedIn areas room (record { header = h; reads = rs })
+  by-room h at e rs after f true g =
+      let goes : roomGate (h .size) areas ≡ Open = rw g in frames.accepted-done (frameOf bytes) areas h at e goes rs after f
+  by-room h at e rs after f false g =
+      let stays : roomGate (h .size) areas ≡ Shut (numberOf Room) 0 = rw g in frames.gate-shut (frameOf bytes) areas h at e (numberOf Room) 0 stays
 
   by-records : (h : Header) (at : ℕ) → headerAt (size .largest) bytes 0 ≡ Given h at → (x : Reading (List Read)) → readsFrom (length bytes) bytes at ≡ x
-      → andThen x (λ rs at₁. Given (record { header = h; reads = rs }) at₁) ≡ Given t end → isRoom (t .header .size) areas ≡ true → Finishes
-  by-records h at e (Given rs after) f g room =
-      let same : record { header = h; reads = rs } ≡ t = cc in
-      let fits : isRoom (h .size) areas ≡ true = ap (λ (u : Trace). isRoom (u .header .size) areas) same ∙ room in
-      let goes : roomGate (h .size) areas ≡ Open = rw fits in
-      frames.accepted-done (frameOf bytes) areas h at e goes rs after f
-      ∙ ap (λ (u : Trace). outcome.done (reportOf (u .header .size) (u .reads)) (emptied (u .header .size) (countsOf (u .header .size) (u .reads)) areas)) same
-  by-records h at e (Refused number place) f g room = let z : _≡_ {A = ℕ} 0 1 = cc in absurd (omega arith)
+      → andThen x (λ rs at₁. Given (record { header = h; reads = rs }) at₁) ≡ Given t end → Comes t
+  by-records h at e (Given rs after) f g =
+      let same : record { header = h; reads = rs } ≡ t = cc in subst Comes same (by-room h at e rs after f (isRoom (h .size) areas) refl)
+  by-records h at e (Refused number place) f g = let z : _≡_ {A = ℕ} 0 1 = cc in absurd (omega arith)
 
   by-header : (x : Reading Header) → headerAt (size .largest) bytes 0 ≡ x
-      → andThen x (λ h at. andThen (readsFrom (length bytes) bytes at) (λ rs at₁. Given (record { header = h; reads = rs }) at₁)) ≡ Given t end
-      → isRoom (t .header .size) areas ≡ true → Finishes
-  by-header (Given h at) e g room = by-records h at e (readsFrom (length bytes) bytes at) refl g room
-  by-header (Refused number place) e g room = let z : _≡_ {A = ℕ} 0 1 = cc in absurd (omega arith)
+      → andThen x (λ h at. andThen (readsFrom (length bytes) bytes at) (λ rs at₁. Given (record { header = h; reads = rs }) at₁)) ≡ Given t end → Comes t
+  by-header (Given h at) e g = by-records h at e (readsFrom (length bytes) bytes at) refl g
+  by-header (Refused number place) e g = let z : _≡_ {A = ℕ} 0 1 = cc in absurd (omega arith)
+
+  pub accepted-run : traceOf (size .largest) bytes ≡ Given t end → runOf bytes areas ≡ acceptedIn areas (isRoom (t .header .size) areas) t
+  unfolding traceOf
+  accepted-run e = by-header (headerAt (size .largest) bytes 0) refl e
 
   pub accepted-done : traceOf (size .largest) bytes ≡ Given t end → isRoom (t .header .size) areas ≡ true
       → runOf bytes areas ≡ outcome.done (reportOf (t .header .size) (t .reads)) (emptied (t .header .size) (countsOf (t .header .size) (t .reads)) areas)
-  unfolding traceOf
-  accepted-done e room = by-header (headerAt (size .largest) bytes 0) refl e room
+  accepted-done e room = accepted-run e ∙ rw room
 
 -- ---- the peaks
 

@@ -35,6 +35,6 @@ volume = record { least = 0; largest = 65535; refusal = Volume }
 unfoldable pub block : Range
 block = record { least = 0; largest = 4294967295; refusal = Form }
 
--- the priority of a read
+-- the priority of a read; 0 is that of a read without a hint
 unfoldable pub priority : Range
-priority = record { least = 1; largest = 16383; refusal = Priority }
+priority = record { least = 0; largest = 16383; refusal = Priority }

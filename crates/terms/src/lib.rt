@@ -79,5 +79,5 @@ pub fn is_volume(value: u64) -> bool
 pub fn is_priority(value: u64) -> bool
     ensures { λ r. ⌜ r ≡ inRange priority value ⌝ }
 {
-    within(1, value, LARGEST_PRIORITY)
+    within(0, value, LARGEST_PRIORITY)
 }

@@ -1,19 +1,19 @@
 -- A record is 3 to 10 bytes and a header is 2, as they are read and as they are spelled. Only what each number takes is computed from its range.
 use mathlib.Core.Path.{_≡_, refl, subst}
-use mathlib.Core.List.{List, [], _∷_}
+use mathlib.Core.List.{List, [], _∷_, map}
 use mathlib.Core.Bool.{Bool, true, false, cond}
-use Prim.Native.Nat.{ℕ, zero, suc, _+_, _/_, _%_, _≤_}
+use Prim.Native.Nat.{ℕ, zero, suc, _+_, _/_, _%_, _≤_, _<_}
 use native.Mathlib.Omega.{arith}
-use lib.ListN.{length}
+use lib.ListN.{length, length-append}
 use lib.Dec.{ltb}
 use borrow.Author.Tests.{ltb-false, le-ltb}
 use Rattle.terms.specs.Ranges.{Range, inRange, edition, sizeUpTo, size, volume, block, priority}
 use Rattle.terms.specs.Reads.{Read, readOf, ReadOk}
 use Rattle.trace.specs.Number.{bytesBefore}
 use Rattle.trace.specs.Reading.{Given, Header, headerOf, headerAt, placedAt, recordAt}
-use Rattle.trace.specs.Spelling.{spell, spelling, spellings, headerValues, readValues}
+use Rattle.trace.specs.Spelling.{spell, spelling, spellings, headerValues, readValues, recordsSpelling, traceSpelling}
 use Rattle.terms.proofs.Ranges.{bounds}
-use Rattle.trace.proofs.spelling.Laws.{spell-short, header-values-length, read-values-length}
+use Rattle.trace.proofs.spelling.Laws.{spell-short, length-low, header-values-length, read-values-length}
 use Rattle.trace.proofs.OneSpelling.{number-long, Gives, gives-field, gives-read, HeaderOk}
 
 -- ---- a number
@@ -65,6 +65,23 @@ header-spelling-length largest h low ok =
 pub record-spelling-length : (r : Read) → ReadOk r → (3 ≤ length (spellings (readValues r))) × (length (spellings (readValues r)) ≤ 10)
 record-spelling-length r ok =
     omega (arith, read-values-length r, volume-takes (r .volume) (ok .0), block-takes (r .block) (ok .1), priority-takes (r .priority) (ok .2))
+
+-- a priority of one byte in the place of another leaves a record as long as it was
+pub record-as-long : (r : Read) (p : ℕ) → p < 128 → r .priority < 128
+    → length (spellings (readValues (readOf (r .volume) (r .block) p))) ≡ length (spellings (readValues r))
+record-as-long r p h g =
+    omega (arith, read-values-length r, read-values-length (readOf (r .volume) (r .block) p), length-low p h, length-low (r .priority) g)
+
+-- and a trace is as long where each of its records is
+module _ (f : Read → Read) (same : (r : Read) → length (spellings (readValues (f r))) ≡ length (spellings (readValues r))) where
+  records-as-long : (rs : List Read) → length (recordsSpelling (map f rs)) ≡ length (recordsSpelling rs)
+  records-as-long [] = refl
+  records-as-long (r ∷ rs) =
+      omega (arith, length-append (spellings (readValues (f r))) (recordsSpelling (map f rs)), length-append (spellings (readValues r)) (recordsSpelling rs), same r, records-as-long rs)
+
+  pub trace-as-long : (h : Header) (rs : List Read) → length (traceSpelling h (map f rs)) ≡ length (traceSpelling h rs)
+  trace-as-long h rs =
+      omega (arith, length-append (spellings (headerValues h)) (recordsSpelling (map f rs)), length-append (spellings (headerValues h)) (recordsSpelling rs), records-as-long rs)
 
 -- ---- what is read
 

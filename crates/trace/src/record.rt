@@ -76,6 +76,13 @@ pub fn rest(part: &[u8]) -> &[u8]
     &part[length..]
 }
 
+// The numbers of a record in their order, each as it was given: a priority of 0 is written as 0.
+fn values_of(volume: u64, block: u32, priority: u64) -> [u64; 3]
+    ensures { λ r. ⌜ r ≡ readValues (readOf volume block priority) ⌝ }
+{
+    [volume, block as u64, priority]
+}
+
 // Writes a record into a buffer from an offset on.
 pub fn write_record(buffer: &mut [u8], at: usize, volume: u64, block: u32, priority: u64) -> Written
     ensures { λ r. ⌜ (writtenAnswer r ≡ recordWriting (readOf volume block priority) (length (now (buffer .entry))) at)
@@ -87,6 +94,6 @@ pub fn write_record(buffer: &mut [u8], at: usize, volume: u64, block: u32, prior
     if !terms::is_priority(priority) {
         return Written::Refused(Refusal::Priority);
     }
-    let values = [volume, block as u64, priority];
+    let values = values_of(volume, block, priority);
     write_numbers(buffer, at, &values)
 }

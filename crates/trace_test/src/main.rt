@@ -206,7 +206,12 @@ fn headers() {
 }
 
 fn records() {
+    record(b"\x00\x00\x00");
     record(b"\x00\x00\x01");
+    record(b"\x01\x0a\x00");
+    record(b"\x01\x0a\x00\x01\x0a\x01");
+    record(b"\x01\x80\x01\x00\x05");
+    record(b"\xff\xff\x03\xff\xff\xff\xff\x0f\x00");
     record(b"\x01\x0a\x01\x01\x0b\x02");
     record(b"\x01\x0a\xff\x7f");
     record(b"\xff\xff\x03\xff\xff\xff\xff\x0f\xff\x7f");
@@ -225,9 +230,9 @@ fn no_records() {
     record(b"\x01\x0a\x81\x00");
     record(b"\x80\x80\x04");
     record(b"\x80\x80\x04\x80\x00");
-    record(b"\x01\x0a\x00");
+    record(b"\x01\x0a\x80\x00");
     record(b"\x01\x0a\x80\x80\x01");
-    record(b"\x01\x80\x01\x00\x05");
+    record(b"\x01\x80\x01\x80\x80\x01\x05");
 }
 
 fn written_headers() {
@@ -258,8 +263,20 @@ fn written_records() {
     write_record(12, 10, 0, 0, 1);
     write_record(12, 13, 0, 0, 1);
     write_record(0, 0, 0, 0, 1);
+    write_record(12, 0, 1, 10, 0);
+    write_record(12, 4, 65535, 127, 0);
+    write_record(12, 3, 65535, 4294967295, 0);
+    write_record(12, 4, 65535, 4294967295, 0);
+    write_record(12, 9, 0, 0, 0);
+    write_record(12, 10, 0, 0, 0);
+    write_record(12, 12, 0, 0, 0);
+    write_record(12, 13, 0, 0, 0);
+    write_record(12, 18446744073709551615, 0, 0, 0);
+    write_record(3, 0, 0, 0, 0);
+    write_record(2, 0, 0, 0, 0);
+    write_record(0, 0, 0, 0, 0);
     write_record(12, 0, 65536, 0, 0);
-    write_record(12, 0, 1, 0, 0);
+    write_record(12, 0, 65536, 0, 16384);
     write_record(12, 0, 1, 0, 16384);
     write_record(1, 0, 1, 0, 16384);
 }

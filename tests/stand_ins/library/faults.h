@@ -10,6 +10,9 @@ enum fault {
     size_8_bits, /* a header's size is cut to 8 bits */
     volume_16_bits, /* a record's volume is cut to 16 bits before its test */
     priority_16_bits, /* a record's priority is cut to 16 bits before its test */
+    priority_16384, /* a record's priority of 16,384 is taken */
+    no_hint_refused, /* a record with priority 0 is refused */
+    no_hint_told_as_one, /* a record with priority 0 is told with priority 1 */
     long_zero, /* a last byte of 0 after another byte is taken */
     fifth_byte, /* a fifth byte over 15 is taken */
     endless_is_cut, /* five bytes that all go on are CUT where the bytes end with them */
@@ -31,6 +34,9 @@ enum fault {
     refused_write_told, /* a refused write tells 0 */
     written_size_8_bits, /* a writer cuts a size to 8 bits */
     written_volume_32_bits, /* a writer cuts a volume to 32 bits */
+    written_priority_16384, /* a writer takes a priority of 16,384 */
+    written_no_hint_refused, /* a writer refuses priority 0 */
+    no_hint_written_as_one, /* a writer writes 1 for priority 0 */
 
     /* runs */
     counts_33_to_126, /* the counts are wrong for every N from 33 to 126 */
@@ -57,6 +63,9 @@ enum fault {
     key_block_31_bits, /* blocks are told apart by 31 bits of their numbers */
     keys_overlap, /* the bits of a volume lie over those of a block */
     priority_8_bits, /* places are found by 8 bits of a priority */
+    no_hint_bypasses, /* in a run a read with priority 0 is a bypass */
+    no_hint_moves_nothing, /* in a run a read with priority 0 is counted and moves nothing */
+    no_hint_last, /* in a run a read with priority 0 asks for the last place */
     full_table, /* after 4,096 blocks no other one comes on a card */
     one_list, /* one list of blocks serves all sizes */
     insert_fills_hole, /* an insert fills the nearest hole below */
@@ -93,6 +102,10 @@ enum fault {
     step_size_8_bits, /* the step cuts the size to 8 bits */
     step_closes_holes, /* the step closes the hole at the top */
     step_block_31_bits, /* the step cuts a block to 31 bits */
+    step_priority_16384, /* the step takes a priority of 16,384 */
+    step_no_hint_refused, /* the step refuses priority 0 */
+    step_no_hint_bypasses, /* a step with priority 0 is a bypass */
+    step_no_hint_moves_nothing, /* a step with priority 0 moves nothing */
     beyond_tested, /* places beyond 127 have to be empty */
     beyond_written, /* the place beyond 127 is written */
     neighbours_tested, /* one block in two places is seen only where they are neighbours */

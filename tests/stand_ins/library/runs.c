@@ -44,7 +44,16 @@ static uint64_t asked(uint64_t block, uint64_t priority) {
     new_ones = cards.reads == 0 ? 0 : new_ones + (cards.stretches[block] == 0);
     if (fault == full_table && cards.stretches[block] == 0 && new_ones > 4096)
         return 16383;
+    if (priority == 0)
+        return fault == no_hint_bypasses ? 16383 : fault == no_hint_last ? cards.size : 1;
     return fault == priority_8_bits ? 1 + (priority - 1) % 256 : priority;
+}
+
+/* The outcome of a read on a copy of a card, so that it moves nothing. */
+static uint64_t only_told(const uint64_t *card, size_t size, uint64_t block, uint64_t priority) {
+    uint64_t copy[SUPHAROEK_LARGEST];
+    memcpy(copy, card, size * sizeof *card);
+    return read_on(copy, size, block, priority);
 }
 
 static void read_all(uint64_t key, uint64_t priority) {
@@ -55,6 +64,8 @@ static void read_all(uint64_t key, uint64_t priority) {
             memmove(card, cards.places[cards.size], m * sizeof *card);
         if (fault == first_read_only && cards.reads > 0)
             six[SUPHAROEK_MISS_BYPASS]++;
+        else if (fault == no_hint_moves_nothing && priority == 0)
+            six[only_told(card, m, block, place)]++;
         else
             six[read_card(card, m, block, place)]++;
     }

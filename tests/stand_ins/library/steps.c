@@ -38,8 +38,12 @@ static uint64_t read_places(uint64_t *places, size_t size, uint64_t key, uint64_
     memcpy(before, places, sizeof before);
     if (fault == step_13_to_99 && size >= 13 && size <= 99)
         priority++;
+    if (fault == step_no_hint_bypasses && priority == 0)
+        priority = size + 1;
     uint64_t outcome = read_on(places, size, key, priority);
     if (fault == step_down_at_57 && size == 57 && outcome == SUPHAROEK_DOWN)
+        memcpy(places, before, sizeof before);
+    if (fault == step_no_hint_moves_nothing && priority == 0)
         memcpy(places, before, sizeof before);
     if (fault == step_closes_holes && places[0] == 0) {
         memmove(places, places + 1, (size - 1) * sizeof *places);
@@ -50,7 +54,8 @@ static uint64_t read_places(uint64_t *places, size_t size, uint64_t key, uint64_
 
 static uint32_t step_refusal(size_t size, const uint64_t *places, size_t places_length, uint64_t volume,
                              uint64_t priority) {
-    int wrong_priority = priority < 1 || priority > 16383;
+    int wrong_priority =
+        priority > 16383 + (fault == step_priority_16384) || (fault == step_no_hint_refused && priority == 0);
     if (places_length < SUPHAROEK_LARGEST || (fault == places_150 && places_length > 150))
         return SUPHAROEK_ROOM;
     if (!is_card(size, places, places_length))

@@ -60,7 +60,8 @@ struct reading header_of(const uint8_t *trace, size_t length) {
 struct reading record_of(const uint8_t *trace, size_t length, size_t at) {
     const struct field fields[] = {{fault == volume_16_bits ? 65535 : UINT32_MAX, 0, 65535, SUPHAROEK_VOLUME},
                                    {UINT32_MAX, 0, UINT32_MAX, 0},
-                                   {fault == priority_16_bits ? 65535 : UINT32_MAX, 1, 16383, SUPHAROEK_PRIORITY}};
+                                   {fault == priority_16_bits ? 65535 : UINT32_MAX, fault == no_hint_refused,
+                                    16383 + (fault == priority_16384), SUPHAROEK_PRIORITY}};
     return read_fields(trace, length, at, fields, 3);
 }
 
@@ -83,6 +84,8 @@ uint32_t supharoek_read_record(const uint8_t *part, size_t part_length, uint64_t
     struct reading found = record_of(part, part_length, 0);
     if (fault == nothing_may_follow && found.end < part_length)
         found.refusal = SUPHAROEK_FORM;
+    if (fault == no_hint_told_as_one && found.values[2] == 0)
+        found.values[2] = 1;
     return told(found, 3, out, out_length);
 }
 
@@ -128,7 +131,9 @@ uint32_t supharoek_write_record(uint8_t *buffer, size_t buffer_length, size_t at
         volume = (uint32_t)volume;
     if (volume > 65535)
         return refused(SUPHAROEK_VOLUME, buffer_length, at, out, out_length);
-    if (priority < 1 || priority > 16383)
+    if (priority > 16383 + (fault == written_priority_16384) || (fault == written_no_hint_refused && priority == 0))
         return refused(SUPHAROEK_PRIORITY, buffer_length, at, out, out_length);
+    if (fault == no_hint_written_as_one && priority == 0)
+        priority = 1;
     return put(buffer, buffer_length, at, spelled, spell_record(spelled, volume, block, priority), out, out_length);
 }

@@ -1,6 +1,7 @@
 -- The ways out of the writer of a record, each from what was tested and what the callees said, for `search`.
-use mathlib.Core.Path.{_≡_, sym, _∙_}
+use mathlib.Core.Path.{_≡_, sym, ap, subst, _∙_}
 use mathlib.Core.Bool.{Bool, true, false, not}
+use mathlib.Core.List.{List}
 use Prim.Native.Nat.{ℕ, _^_, _<_}
 use native.Mathlib.Omega.{arith}
 use lib.ListN.{length}
@@ -9,8 +10,8 @@ use Rattle.terms.specs.Refusals.{numberOf}
 use Rattle.terms.specs.Ranges.{inRange, volume, block, priority}
 use Rattle.terms.specs.Reads.{readOf}
 use Rattle.trace.specs.Spelling.{spellings, readValues}
-use Rattle.trace.specs.Writing.{Writing, Refused, ranged, spaced, recordWriting}
-use Rattle.trace.specs.Bounds.{numberLimit}
+use Rattle.trace.specs.Writing.{Writing, Refused, ranged, spaced, recordWriting, bufferAfter}
+use Rattle.trace.specs.Bounds.{numberLimit, Spelled}
 use Rattle.trace.proofs.Fields.{block-any}
 use Rattle.trace.proofs.Ranged.{range-out, in-range, range-in, in-range-low, ranges-low}
 
@@ -19,10 +20,15 @@ word-low : (b : ℕ) → b < 2 ^ 32 → b < numberLimit
 unfolding numberLimit
 word-low b h = omega arith
 
-pub record-low : (v b p : ℕ) (t₁ t₃ : Bool) → t₁ ≡ inRange volume v → not t₁ ≡ false → b < 2 ^ 32 → t₃ ≡ inRange priority p → not t₃ ≡ false
-    → (v < numberLimit) × (b < numberLimit) × (p < numberLimit)
-record-low v b p t₁ t₃ i₁ o₁ low i₃ o₃ =
-    (in-range-low volume v (ranges-low .2) (in-range volume v t₁ i₁ o₁), word-low b low, in-range-low priority p (ranges-low .4) (in-range priority p t₃ i₃ o₃))
+-- the values that the code has are the numbers of the record: they have spellings, and the buffer gets those of the record
+module _ (v b p : ℕ) (values : List ℕ) (e : values ≡ readValues (readOf v b p)) where
+  pub record-low : (t₁ t₃ : Bool) → t₁ ≡ inRange volume v → not t₁ ≡ false → b < 2 ^ 32 → t₃ ≡ inRange priority p → not t₃ ≡ false → Spelled values
+  record-low t₁ t₃ i₁ o₁ low i₃ o₃ =
+      subst Spelled (sym e) (in-range-low volume v (ranges-low .2) (in-range volume v t₁ i₁ o₁), (word-low b low, (in-range-low priority p (ranges-low .4) (in-range priority p t₃ i₃ o₃), tt)))
+
+  pub record-put : (x : Writing) (before after : List ℕ) (at : ℕ) → after ≡ bufferAfter x before at (spellings values)
+      → after ≡ bufferAfter x before at (spellings (readValues (readOf v b p)))
+  record-put x before after at g = g ∙ ap (λ (l : List ℕ). bufferAfter x before at (spellings l)) e
 
 module _ (room at v b p : ℕ) (t₁ : Bool) (i₁ : t₁ ≡ inRange volume v) where
   abbrev recordSpaced : Writing
@@ -42,5 +48,6 @@ module _ (room at v b p : ℕ) (t₁ : Bool) (i₁ : t₁ ≡ inRange volume v) 
     other-priority h = range-out priority p t₃ i₃ recordSpaced h ∙ sym to-priority
 
     module _ (o₃ : not t₃ ≡ false) where
-      pub record-written : (x : Writing) → x ≡ spaced room at (length (spellings (readValues (readOf v b p)))) → x ≡ recordWriting (readOf v b p) room at
-      record-written x g = g ∙ sym (to-priority ∙ range-in priority p t₃ i₃ o₃ recordSpaced)
+      pub record-written : (values : List ℕ) → values ≡ readValues (readOf v b p) → (x : Writing) → x ≡ spaced room at (length (spellings values))
+          → x ≡ recordWriting (readOf v b p) room at
+      record-written values e x g = g ∙ ap (λ (l : List ℕ). spaced room at (length (spellings l))) e ∙ sym (to-priority ∙ range-in priority p t₃ i₃ o₃ recordSpaced)
