@@ -11,7 +11,7 @@ use Rattle.card.specs.Stretches.{placesOf, stretches, blocksOf, sumOver,
 use Rattle.card.specs.Hints.{hinted, allHinted}
 use Rattle.card.proofs.Tests.{by-eq, tests}
 
--- a read without a hint asks for the top
+-- a read asks for the same place with 0 written as 1
 pub asked-hinted : (m : ℕ) (r : Read) → asked m (hinted r) ≡ asked m r
 unfolding asked
 asked-hinted m r = by-eq (r .priority) 0 (λ e. simp tests (omega arith)) (λ e. simp tests)

@@ -57,7 +57,7 @@ done-accepted bytes areas report d =
       counts-are = ap (λ (left : Areas). left .counts) (a .is-left);
     }
 
--- ---- and every trace with enough room is accepted, whatever blocks it names
+-- ---- what an accepted trace comes to: with enough room it is run to its end, whatever blocks it names
 
 -- the outcome of a trace that is accepted, by whether there is room for it
 abbrev pub acceptedIn : Areas → Bool → Trace → Outcome
