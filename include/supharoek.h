@@ -29,7 +29,7 @@ enum supharoek_refusal {
     SUPHAROEK_VOLUME = 5,   /* a volume over 65,535 */
     SUPHAROEK_PRIORITY = 6, /* a priority over 16,383 */
     SUPHAROEK_ROOM = 7,     /* a lent area that is too short; its place is 0 */
-    SUPHAROEK_SPACE = 8,    /* a buffer that is too short from the offset on */
+    SUPHAROEK_SPACE = 8,    /* a buffer that is too short from the offset on, or an output or a list for a salvage */
     SUPHAROEK_STATE = 9,    /* a size and places that are no card */
     SUPHAROEK_LARGE = 10,   /* the sheet program alone gives this: more input than it takes */
     SUPHAROEK_RATIO = 11    /* no ratio of these two numbers */
@@ -57,6 +57,10 @@ enum supharoek_outcome {
 #define SUPHAROEK_STRETCHES(n) (2 * (size_t)(n) * (((size_t)(n) + 1) / 2))
 #define SUPHAROEK_COUNTS(n) (SUPHAROEK_OUTCOMES * (size_t)(n))
 
+/* How many bytes and entries suffice to salvage any trace of n bytes. */
+#define SUPHAROEK_GOOD(n) ((size_t)(n))
+#define SUPHAROEK_ENTRIES(n) ((size_t)(n) / 3)
+
 /* A length of text into which every sheet fits. */
 #define SUPHAROEK_TEXT 32768
 
@@ -81,6 +85,26 @@ uint32_t supharoek_write_header(uint8_t *buffer, size_t buffer_length, size_t at
  * VOLUME, PRIORITY or SPACE, tested in this order: buffer and out keep all their values. */
 uint32_t supharoek_write_record(uint8_t *buffer, size_t buffer_length, size_t at, uint64_t volume, uint32_t block,
                                 uint64_t priority, uint64_t *out, size_t out_length);
+
+/* Bytes of a trace that a salvage left out. */
+struct supharoek_entry {
+    uint64_t offset; /* of the first of them, from the trace's first byte on */
+    uint64_t length; /* how many they are */
+    uint64_t number; /* of the refusal: CUT, FORM, VOLUME or PRIORITY */
+};
+
+/* Salvages a trace with bad records: writes a good trace into `good`, and an entry for whatever is left out into
+ * `entries`, in the order of the trace. The good trace is the header and each record that can be read, the same bytes
+ * in the same order. A record of well-formed numbers whose volume or priority is out of range is left out alone. At the
+ * first FORM or CUT everything from the first byte of its record on is left out, as one entry. A record with two faults
+ * is listed under the first, also where the second is a FORM or a CUT, which then still leaves out the rest. What is
+ * kept and what is listed cover the trace after its header, each byte once.
+ * 0, and out: the bytes and the entries written. What lies beyond them keeps its values.
+ * CUT, FORM, EDITION or SIZE for the header, and out: the place. good and entries keep all their values.
+ * SPACE, tested after the header, where good or entries is too short for this trace: good, entries and out keep all
+ * their values. SUPHAROEK_GOOD and SUPHAROEK_ENTRIES of the trace's length suffice. */
+uint32_t supharoek_salvage(const uint8_t *trace, size_t trace_length, uint8_t *good, size_t good_length,
+                           struct supharoek_entry *entries, size_t entries_length, uint64_t *out, size_t out_length);
 
 /* Runs a whole trace on cards of every size from 1 to the n of its header. What the areas hold before has no influence;
  * their lengths are SUPHAROEK_BLOCKS(n), SUPHAROEK_STRETCHES(n) and SUPHAROEK_COUNTS(n) or more.

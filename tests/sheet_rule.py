@@ -8,6 +8,9 @@ WORKED = bytes.fromhex('0103010a01010b02010c03010a03010b03010d02010c04010d01')
 WORKED_SHEET = 'accesses 8 stretches 3 block 2\n1 7 0 0 0 1 2 5\n2 5 1 0 0 2 3 2\n3 4 0 1 2 1 4 0\n'
 # where the description has block 13 after the seventh read of that trace: a size, and the place in it
 WORKED_PLACES = ((2, 2), (3, 1))
+# traces at the borders of what is refused; those with the least and the largest priority are accepted
+BORDERS = ('', '0100', '018001', '0200', '0103808004', '0103010a', '0103010a00', '0103010aff7f', '0103010a808001',
+           '0103010a8000', '018000')
 
 
 def refused(number, place):

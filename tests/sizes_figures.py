@@ -10,11 +10,9 @@ import compare
 import paper
 import sizes_rule as rule
 import trace_format as form
-from sheet_rule import WORKED, WORKED_PLACES, reads_of
+from sheet_rule import BORDERS, WORKED, WORKED_PLACES, reads_of
 
 SHEET = 'done 8 3 2 3 0 12 0 counts 0 0 0 1 2 5 1 0 0 2 3 2 0 1 2 1 4 0'
-# traces at the borders of what is refused; those with the least and the largest priority are accepted
-BORDERS = ('', '0100', '018001', '0200', '0103808004', '0103010a', '0103010a00', '0103010aff7f', '0103010a808001', '0103010a8000', '018000')
 # blocks with their priorities: all six outcomes occur, and a block has two stretches
 NO_HINTS = ((5, 0), (4, 4), (3, 0), (3, 0), (3, 0), (4, 0), (6, 0), (6, 4), (3, 3), (5, 4), (3, 0), (5, 0))
 

@@ -10,11 +10,9 @@ import random
 import sys
 
 import compare
-import kit
 import sizes_rule as rule
 import trace_format as form
 
-BATCH = 60000
 SMALL_CASES, SMALL_SIZE = 2500, 12
 CLIMBS = (12, 13, 40, 77, 127)
 LONG_READS = 14000
@@ -100,19 +98,6 @@ def cases(pick):
     yield form.trace(3, reads), rule.stated(3), pick.randint(1, 255)
 
 
-def batches(every):
-    """Cases in lists of no more bytes than the program takes at a time."""
-    batch, length = [], 0
-    for case in every:
-        taken = len(rule.packed(*case))
-        if length + taken > BATCH:
-            yield batch
-            batch, length = [], 0
-        batch.append(case)
-        length += taken
-    yield batch
-
-
 def check_climbs(tally, pick):
     """The simulation itself climbs as far as it has to, so that these cases do not get weak unnoticed."""
     for size in CLIMBS:
@@ -124,11 +109,7 @@ def check_climbs(tally, pick):
 def main(program='sizes_test'):
     tally = compare.Tally()
     pick = random.Random(20261115)
-    for batch in batches(cases(pick)):
-        lines = kit.output(program, b''.join(rule.packed(*case) for case in batch)).split('\n')[:-1]
-        tally.equal('the lines of a batch', len(lines), len(batch))
-        for case, line in zip(batch, lines):
-            tally.equal('trace %s lent %s filled %d' % (case[0].hex(), case[1], case[2]), line, rule.expected(*case))
+    tally.cases(program, cases(pick), rule)
     check_climbs(tally, pick)
     return tally.end()
 

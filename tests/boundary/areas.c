@@ -6,7 +6,7 @@
 
 #include "tally.h"
 
-/* A multiple of every width, so that what is lent stays aligned. */
+/* A multiple of what every element is aligned to, so that what is lent stays aligned. */
 enum { GUARD = 64 };
 
 static size_t bytes_of(struct area area) {
@@ -33,6 +33,13 @@ struct area lend(size_t width, size_t length) {
         uint64_t noise = chance();
         memcpy(area.at - GUARD + i, &noise, all - i < 8 ? all - i : 8);
     }
+    renew(area);
+    return area;
+}
+
+struct area lend_copy(const uint8_t *bytes, size_t length) {
+    struct area area = lend(1, length);
+    memcpy(area.at, bytes, length);
     renew(area);
     return area;
 }

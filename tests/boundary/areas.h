@@ -16,6 +16,9 @@ struct area {
 void *taken(size_t length);
 
 struct area lend(size_t width, size_t length);
+
+/* Lends a copy of these bytes. */
+struct area lend_copy(const uint8_t *bytes, size_t length);
 void take_back(struct area area);
 
 /* What the area holds now counts as what it held when it was lent. */

@@ -12,6 +12,7 @@ int main(int given, char **arguments) {
     check_ratios();
     check_counts();
     check_what_is_stated();
+    check_salvaging();
     check_steps();
     check_rooms();
     check_runs();

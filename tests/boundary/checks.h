@@ -7,6 +7,7 @@ void check_writing(void);
 void check_ratios(void);
 void check_counts(void);
 void check_what_is_stated(void);
+void check_salvaging(void);
 void check_steps(void);
 void check_rooms(void);
 void check_runs(void);

@@ -11,6 +11,7 @@ struct range {
 static const struct range header[] = {{1, 1, SUPHAROEK_EDITION}, {1, 127, SUPHAROEK_SIZE}};
 static const struct range record[] = {
     {0, 65535, SUPHAROEK_VOLUME}, {0, UINT32_MAX, 0}, {0, 16383, SUPHAROEK_PRIORITY}};
+static const struct range formed[] = {{0, UINT32_MAX, 0}, {0, UINT32_MAX, 0}, {0, UINT32_MAX, 0}};
 
 /* The bytes of the number at a place with its last one, or 0 where the trace ends before it does. */
 static size_t number_length(const uint8_t *bytes, size_t length, size_t at) {
@@ -64,6 +65,10 @@ struct reading header_at_start(const uint8_t *bytes, size_t length) {
 
 struct reading record_at(const uint8_t *bytes, size_t length, size_t at) {
     return fields_at(bytes, length, at, record, 3);
+}
+
+struct reading formed_at(const uint8_t *bytes, size_t length, size_t at) {
+    return fields_at(bytes, length, at, formed, 3);
 }
 
 size_t spell(uint8_t *to, uint64_t value) {

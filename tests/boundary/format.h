@@ -17,6 +17,9 @@ struct reading {
 struct reading header_at_start(const uint8_t *bytes, size_t length);
 struct reading record_at(const uint8_t *bytes, size_t length, size_t at);
 
+/* A record by the form of its numbers alone, whatever their values are. */
+struct reading formed_at(const uint8_t *bytes, size_t length, size_t at);
+
 /* Spells a number up to 4,294,967,295 and answers how many bytes that took. */
 size_t spell(uint8_t *to, uint64_t value);
 size_t spell_header(uint8_t *to, uint64_t edition, uint64_t size);

@@ -51,10 +51,8 @@ struct expected expected_of(const struct trace *trace, const size_t *lengths) {
 }
 
 static struct lent lend_all(const struct trace *trace, const size_t *lengths) {
-    struct lent lent = {lend(1, trace->length), lend(sizeof(uint64_t), lengths[0]), lend(sizeof(uint16_t), lengths[1]),
-                        lend(sizeof(uint64_t), lengths[2])};
-    memcpy(lent.trace.at, trace->bytes, trace->length);
-    renew(lent.trace);
+    struct lent lent = {lend_copy(trace->bytes, trace->length), lend(sizeof(uint64_t), lengths[0]),
+                        lend(sizeof(uint16_t), lengths[1]), lend(sizeof(uint64_t), lengths[2])};
     return lent;
 }
 

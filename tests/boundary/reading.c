@@ -1,6 +1,4 @@
 /* supharoek_read_header and supharoek_read_record. */
-#include <string.h>
-
 #include "areas.h"
 #include "checks.h"
 #include "format.h"
@@ -20,9 +18,7 @@ struct expected {
 
 /* Calls a reader on bytes with guards around them, and lets it tell into so many numbers. */
 static void check_read(reader *call, const uint8_t *given, size_t length, size_t outs, struct expected expected) {
-    struct area bytes = lend(1, length), out = lend(sizeof(uint64_t), outs);
-    memcpy(bytes.at, given, length);
-    renew(bytes);
+    struct area bytes = lend_copy(given, length), out = lend(sizeof(uint64_t), outs);
     uint32_t number = call(bytes.at, length, (uint64_t *)out.at, outs);
     check(number == expected.number, "the answer of a reader", expected.number);
     check(begins_with(out, expected.told, expected.tells), "what a reader tells", expected.number);

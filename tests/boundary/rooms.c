@@ -1,6 +1,4 @@
 /* Areas of a run that are too short, of no length and far too long, with right traces and with refused ones. */
-#include <string.h>
-
 #include "checks.h"
 #include "one_run.h"
 #include "tally.h"
@@ -67,9 +65,7 @@ static void check_headers(struct trace *trace) {
             stated_lengths(lengths, 3);
             for (int area = 0; area < AREAS; area++)
                 lengths[area] *= empty >> area & 1 ? 0 : 1;
-            begin_trace(trace, 3, FEW_READS);
-            memcpy(trace->bytes, headers[i].bytes, headers[i].length);
-            trace->length = headers[i].length;
+            give_bytes(trace, headers[i].bytes, headers[i].length);
             uint32_t number = check_both(trace, lengths, i).number;
             check(number >= SUPHAROEK_CUT && number <= SUPHAROEK_SIZE, "a header that is refused", i);
             end_case();

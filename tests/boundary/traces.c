@@ -81,6 +81,26 @@ void make_trace(struct trace *trace, size_t n, size_t reads, int kind) {
         add_read(trace, one_volume ? 1 : some_volume(), some_block(pool), some_priority(n, kind));
 }
 
+/* A number past the last one of a range: the very next, or any. */
+static uint64_t some_past(uint64_t last) {
+    return from_to(0, 1) ? last + 1 : from_to(last + 1, UINT32_MAX);
+}
+
+void make_bad_trace(struct trace *trace, size_t n, size_t reads) {
+    /* a record with numbers out of range takes up to half as much again as the longest right one */
+    begin_trace(trace, n, 2 * reads);
+    for (size_t i = 0; i < reads; i++) {
+        uint64_t volume = from_to(0, 4) ? some_volume() : some_past(65535);
+        add_read(trace, volume, some_block(n), from_to(0, 4) ? some_priority(n, PRIORITY_KINDS - 1) : some_past(16383));
+    }
+}
+
+void give_bytes(struct trace *trace, const void *bytes, size_t length) {
+    begin_trace(trace, 1, length);
+    memcpy(trace->bytes, bytes, length);
+    trace->length = length;
+}
+
 /* Puts bytes in at a place, and what stood there goes further. */
 static void put_in(struct trace *trace, size_t at, const uint8_t *bytes, size_t length) {
     memmove(trace->bytes + at + length, trace->bytes + at, trace->length - at);
@@ -137,7 +157,7 @@ void damage(struct trace *trace, int way) {
         put_in_record(trace, from_to(65536, UINT32_MAX), 1, 1);
         break;
     case 7:
-        put_in_record(trace, 1, UINT32_MAX, from_to(0, 1) ? 16384 : from_to(16384, UINT32_MAX));
+        put_in_record(trace, 1, UINT32_MAX, some_past(16383));
         break;
     case 8:
         change_header(trace, from_to(0, 300), 3);

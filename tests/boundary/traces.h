@@ -25,6 +25,12 @@ void add_outcomes(struct trace *trace, uint64_t volume, uint64_t block);
 /* A trace of so many reads for sizes 1 to n, with priorities of one of the kinds. */
 void make_trace(struct trace *trace, size_t n, size_t reads, int kind);
 
+/* A trace likewise, in which many volumes and priorities are out of range. */
+void make_bad_trace(struct trace *trace, size_t n, size_t reads);
+
+/* A trace of these bytes, whatever they are. */
+void give_bytes(struct trace *trace, const void *bytes, size_t length);
+
 /* Spoils a trace in one of the ways; what is left may still be a right one. */
 void damage(struct trace *trace, int way);
 

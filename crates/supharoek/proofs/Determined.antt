@@ -11,10 +11,12 @@ use Rattle.trace.specs.Reading.{Header, headerAt, placedAt}
 use Rattle.trace.specs.Writing.{headerWriting, recordWriting, headerBuffer, recordBuffer}
 use Rattle.card.specs.Counts.{countingOf, countsAfter}
 use Rattle.card.specs.Ratio.{ratioOf}
+use Rattle.salvage.specs.declared.Entry.{Entry}
+use Rattle.salvage.specs.Answers.{salvaging, goodLeft, listLeft}
 use Rattle.sizes.specs.Outcome.{Areas, runOf}
 use Rattle.sizes.specs.Answers.{AreasAre}
 use Rattle.sizes.proofs.RanFacts.{areas-determined}
-use Rattle.supharoek.specs.Told.{Told, Tells, headerTold, recordTold, writingTold, runTold, countTold, stepCall, placesAfter}
+use Rattle.supharoek.specs.Told.{Told, Tells, headerTold, recordTold, writingTold, salvageTold, runTold, countTold, stepCall, placesAfter}
 use Rattle.supharoek.specs.Ratios.{ratioNumber, ratioAfter}
 
 -- ---- what every call tells
@@ -36,6 +38,14 @@ module _ (r r′ : ℕ) (out last last′ : List ℕ) where
 
   pub read-record-determined : (part : List ℕ) → Tells (recordTold (placedAt part 0)) r out last → Tells (recordTold (placedAt part 0)) r′ out last′ → (r ≡ r′) × (last ≡ last′)
   read-record-determined part = told-determined (recordTold (placedAt part 0)) r r′ out last last′
+
+  -- the salvage, its output and its list
+  pub salvage-determined : (trace good : List ℕ) (entries : List Entry) (lent lent′ : List ℕ) (list list′ : List Entry)
+      → Tells (salvageTold (salvaging trace (length good) (length entries))) r out last × ((lent ≡ goodLeft trace good (length entries)) × (list ≡ listLeft trace (length good) entries))
+      → Tells (salvageTold (salvaging trace (length good) (length entries))) r′ out last′ × ((lent′ ≡ goodLeft trace good (length entries)) × (list′ ≡ listLeft trace (length good) entries))
+      → ((r ≡ r′) × (last ≡ last′)) × ((lent ≡ lent′) × (list ≡ list′))
+  salvage-determined trace good entries lent lent′ list list′ e f =
+      (told-determined (salvageTold (salvaging trace (length good) (length entries))) r r′ out last last′ (e .0) (f .0), (one-value (e .1 .0) (f .1 .0), one-value (e .1 .1) (f .1 .1)))
 
   module _ (lent lent′ : List ℕ) where
     -- the writers and their buffer

@@ -16,6 +16,7 @@ use Rattle.card.specs.Counts.{isHit}
 use Rattle.pass.specs.Outcome as outcome
 use Rattle.pass.specs.declared.answers.Report.{Report}
 use Rattle.sheet_text.specs.Sheet.{shown}
+use Rattle.salvage.specs.Answers as salvage
 
 pub record Told : Type 0 where
   pub number : ℕ
@@ -42,6 +43,12 @@ recordTold (reading.Refused number place) = tells number (place ∷ [])
 abbrev pub writingTold : writing.Writing → Told
 writingTold (writing.Length n) = tells 0 (n ∷ [])
 writingTold (writing.Refused number) = tells number []
+
+-- a salvage: the bytes and the entries written; or the place, where the refusal has one
+abbrev pub salvageTold : salvage.Salvaging → Told
+salvageTold (salvage.Done bytes entries) = tells 0 (bytes ∷ entries ∷ [])
+salvageTold (salvage.Refused number place) = tells number (place ∷ [])
+salvageTold (salvage.Unplaced number) = tells number []
 
 -- a run: the reads and the two peaks; or the place
 abbrev pub runTold : outcome.Answer Report ℕ → Told

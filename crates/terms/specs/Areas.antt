@@ -7,6 +7,7 @@ use lib.ListN.{length, drop, replicate}
 abbrev pub zeros : ℕ → List ℕ
 zeros n = replicate n 0
 
--- a part at the front of an area in the place of what was there
-abbrev pub fronted : List ℕ → List ℕ → List ℕ
-fronted front area = front ++ drop (length front) area
+module _ {A : Type 0} where
+  -- a part at the front of an area in the place of what was there
+  abbrev pub fronted : List A → List A → List A
+  fronted front area = front ++ drop (length front) area

@@ -27,14 +27,22 @@ sizeUpTo most = record { least = 1; largest = most; refusal = Size }
 unfoldable pub size : Range
 size = sizeUpTo 127
 
+-- the volume of a block, from 0 to a largest one
+abbrev pub volumeUpTo : ℕ → Range
+volumeUpTo most = record { least = 0; largest = most; refusal = Volume }
+
 -- the volume of a block
 unfoldable pub volume : Range
-volume = record { least = 0; largest = 65535; refusal = Volume }
+volume = volumeUpTo 65535
 
 -- the number of a block on its volume: each number is one, and a larger one has no spelling
 unfoldable pub block : Range
 block = record { least = 0; largest = 4294967295; refusal = Form }
 
--- the priority of a read; 0 is that of a read without a hint
+-- the priority of a read, from 0, that of a read without a hint, to a largest one
+abbrev pub priorityUpTo : ℕ → Range
+priorityUpTo most = record { least = 0; largest = most; refusal = Priority }
+
+-- the priority of a read
 unfoldable pub priority : Range
-priority = record { least = 0; largest = 16383; refusal = Priority }
+priority = priorityUpTo 16383

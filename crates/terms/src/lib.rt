@@ -3,7 +3,7 @@ ghost use mathlib.Core.Path.{_≡_};
 ghost use mathlib.Core.Bool.{_&&_};
 ghost use lib.Dec.{leb};
 ghost use Rattle.terms.specs.Refusals.{numberOf};
-ghost use Rattle.terms.specs.Ranges.{inRange, edition, sizeUpTo, volume, priority};
+ghost use Rattle.terms.specs.Ranges.{inRange, edition, sizeUpTo, volumeUpTo, volume, priorityUpTo, priority};
 
 pub mod numbers;
 
@@ -47,6 +47,12 @@ pub const LARGEST_SIZE: usize = 127;
 
 pub const LARGEST_VOLUME: u64 = 65535;
 
+// Each number that has a spelling is a block.
+pub const LARGEST_BLOCK: u64 = 4294967295;
+
+// The priority of a read without a hint.
+pub const LEAST_PRIORITY: u64 = 0;
+
 pub const LARGEST_PRIORITY: u64 = 16383;
 
 fn within(least: u64, value: u64, largest: u64) -> bool
@@ -70,14 +76,26 @@ pub fn is_size(value: u64, largest: u64) -> bool
     within(1, value, largest)
 }
 
+pub fn is_volume_up_to(value: u64, largest: u64) -> bool
+    ensures { λ r. ⌜ r ≡ inRange (volumeUpTo largest) value ⌝ }
+{
+    within(0, value, largest)
+}
+
 pub fn is_volume(value: u64) -> bool
     ensures { λ r. ⌜ r ≡ inRange volume value ⌝ }
 {
-    within(0, value, LARGEST_VOLUME)
+    is_volume_up_to(value, LARGEST_VOLUME)
+}
+
+pub fn is_priority_up_to(value: u64, largest: u64) -> bool
+    ensures { λ r. ⌜ r ≡ inRange (priorityUpTo largest) value ⌝ }
+{
+    within(LEAST_PRIORITY, value, largest)
 }
 
 pub fn is_priority(value: u64) -> bool
     ensures { λ r. ⌜ r ≡ inRange priority value ⌝ }
 {
-    within(0, value, LARGEST_PRIORITY)
+    is_priority_up_to(value, LARGEST_PRIORITY)
 }

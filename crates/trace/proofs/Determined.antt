@@ -71,8 +71,9 @@ pub read-header-determined : (largest : ℕ) (s : List ℕ) (x y : Header)
     → headerAnswer x ≡ reading.headerAt largest s 0 → headerAnswer y ≡ reading.headerAt largest s 0 → x ≡ y
 read-header-determined largest s x y e f = one-header x y (one-value e f)
 
-pub read-record-determined : (s : List ℕ) (x y : Record) → recordAnswer x ≡ reading.placedAt s 0 → recordAnswer y ≡ reading.placedAt s 0 → x ≡ y
-read-record-determined s x y e f = one-record x y (one-value e f)
+-- a record, and one with the ranges wide open, whatever the promise
+pub read-record-determined : (promised : reading.Reading reading.Placed) (x y : Record) → recordAnswer x ≡ promised → recordAnswer y ≡ promised → x ≡ y
+read-record-determined promised x y e f = one-record x y (one-value e f)
 
 -- the rest: its bytes and its pointer
 pub rest-determined : (s : List ℕ) (pointer : ℕ × ℕ) (t u : List ℕ) (p q : ℕ × ℕ)

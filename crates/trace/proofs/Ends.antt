@@ -6,7 +6,7 @@ use native.Mathlib.Omega.{arith}
 use lib.ListN.{length}
 use Rattle.terms.specs.Ranges.{Range, inRange, edition, sizeUpTo, volume, block, priority}
 use Rattle.trace.specs.Number.{Numeral, Value, Fault, numberAt}
-use Rattle.trace.specs.Reading.{Reading, Given, Refused, tested, andThen, field, headerAt, placedAt, recordAt}
+use Rattle.trace.specs.Reading.{Reading, Given, Refused, tested, andThen, field, headerAt, placedIn, placedAt, formedAt, recordAt}
 use Rattle.trace.proofs.number.Laws.{OfValue}
 use Rattle.trace.proofs.Fields.{NumberIn, number-in}
 
@@ -41,14 +41,18 @@ header-within largest s at h =
     (λ e at₁ l₁ h₁. within-field (sizeUpTo largest) s at at₁ _ (omega arith) h₁
     (λ n at₂ l₂ h₂. omega arith))
 
-placed-within : (s : List ℕ) (at : ℕ) → at ≤ length s → Within at (length s) (placedAt s at)
-unfolding placedAt
-placed-within s at h =
-    within-field volume s at at _ (omega arith) h
+placed-within : (volumes priorities : Range) (s : List ℕ) (at : ℕ) → at ≤ length s → Within at (length s) (placedIn volumes priorities s at)
+unfolding placedIn
+placed-within volumes priorities s at h =
+    within-field volumes s at at _ (omega arith) h
     (λ v at₁ l₁ h₁. within-field block s at at₁ _ (omega arith) h₁
-    (λ b at₂ l₂ h₂. within-field priority s at at₂ _ (omega arith) h₂
+    (λ b at₂ l₂ h₂. within-field priorities s at at₂ _ (omega arith) h₂
     (λ p at₃ l₃ h₃. omega arith)))
 
 pub record-within : (s : List ℕ) (at : ℕ) → at ≤ length s → Within at (length s) (recordAt s at)
-unfolding recordAt
-record-within s at h = within-then at (length s) (placedAt s at) _ (placed-within s at h) (λ r end l g. (l, g))
+unfolding recordAt placedAt
+record-within s at h = within-then at (length s) (placedAt s at) _ (placed-within volume priority s at h) (λ r end l g. (l, g))
+
+pub formed-within : (s : List ℕ) (at : ℕ) → at ≤ length s → Within at (length s) (formedAt s at)
+unfolding formedAt
+formed-within s at h = placed-within _ _ s at h

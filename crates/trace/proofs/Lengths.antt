@@ -9,11 +9,11 @@ use lib.Dec.{ltb}
 use borrow.Author.Tests.{ltb-false, le-ltb}
 use Rattle.terms.specs.Ranges.{Range, inRange, edition, sizeUpTo, size, volume, block, priority}
 use Rattle.terms.specs.Reads.{Read, readOf, ReadOk}
-use Rattle.trace.specs.Number.{bytesBefore}
-use Rattle.trace.specs.Reading.{Given, Header, headerOf, headerAt, placedAt, recordAt}
+use Rattle.trace.specs.Number.{Value, numberAt, bytesBefore}
+use Rattle.trace.specs.Reading.{Given, Header, headerOf, headerAt, Placed, placedIn, placedAt, formedAt, recordAt}
 use Rattle.trace.specs.Spelling.{spell, spelling, spellings, headerValues, readValues, recordsSpelling, traceSpelling}
 use Rattle.terms.proofs.Ranges.{bounds}
-use Rattle.trace.proofs.spelling.Laws.{spell-short, length-low, header-values-length, read-values-length}
+use Rattle.trace.proofs.spelling.Laws.{spell-short, spelling-short, length-low, header-values-length, read-values-length}
 use Rattle.trace.proofs.OneSpelling.{number-long, Gives, gives-field, gives-read, HeaderOk}
 
 -- ---- a number
@@ -94,7 +94,7 @@ header-given largest s at =
     (λ n n₂ e₂ r₂. ((r₁, r₂), omega (arith, header-values-length (headerOf e n), number-long s at e n₁ e₁, number-long s (at + n₁) n n₂ e₂))))
 
 pub record-given : (s : List ℕ) (at : ℕ) → Gives (λ r end. ReadOk r × (end ≡ at + length (spellings (readValues r)))) (recordAt s at)
-unfolding placedAt
+unfolding placedAt placedIn
 record-given s at =
     gives-read _ s at
     (gives-field _ volume s at _
@@ -102,7 +102,22 @@ record-given s at =
     (λ b n₂ e₂ r₂. gives-field _ priority s (at + n₁ + n₂) _
     (λ p n₃ e₃ r₃. ((r₁, r₂, r₃), omega (arith, read-values-length (readOf v b p), number-long s at v n₁ e₁, number-long s (at + n₁) b n₂ e₂, number-long s (at + n₁ + n₂) p n₃ e₃))))))
 
+-- three numbers have three bytes, in whatever ranges they are
+formed-given : (s : List ℕ) (at : ℕ) → Gives (λ r end. at + 3 ≤ end) (formedAt s at)
+unfolding formedAt placedIn
+formed-given s at =
+    gives-field _ _ s at _
+    (λ v n₁ e₁ r₁. gives-field _ block s (at + n₁) _
+    (λ b n₂ e₂ r₂. gives-field _ _ s (at + n₁ + n₂) _
+    (λ p n₃ e₃ r₃. omega (arith, number-short s at v n₁ e₁, number-short s (at + n₁) b n₂ e₂, number-short s (at + n₁ + n₂) p n₃ e₃))))
+  where
+    number-short : (s : List ℕ) (at v n : ℕ) → numberAt s at ≡ Value v n → 1 ≤ n
+    number-short s at v n e = omega (arith, number-long s at v n e, spelling-short v)
+
 module _ (s : List ℕ) (at : ℕ) where
+  pub formed-length : (r : Placed) (end : ℕ) → formedAt s at ≡ Given r end → at + 3 ≤ end
+  formed-length r end e = subst (Gives _) e (formed-given s at)
+
   pub header-length : (largest : ℕ) (h : Header) (end : ℕ) → largest ≤ size .largest → headerAt largest s at ≡ Given h end → end ≡ at + 2
   header-length largest h end low e =
       let given = subst (Gives _) e (header-given largest s at) in

@@ -4,6 +4,7 @@ pub mod Ends
 pub mod OneSpelling
 pub mod Lengths
 pub mod Parts
+pub mod Puts
 pub mod RoundTrip
 pub mod WholeTrace
 pub mod Determined

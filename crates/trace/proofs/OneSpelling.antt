@@ -13,7 +13,7 @@ use borrow.Author.Tests.{le-ltb, ltb-true, ltb-false}
 use Rattle.terms.specs.Ranges.{Range, inRange, edition, sizeUpTo, volume, block, priority}
 use Rattle.trace.specs.Number.{Numeral, Value, Fault, after, numeral, numberAt, topByte, bytesBefore}
 use Rattle.terms.specs.Reads.{Read, ReadOk}
-use Rattle.trace.specs.Reading.{Found, Reading, Given, Refused, andThen, tested, field, Header, headerAt, Placed, placedAt, recordAt}
+use Rattle.trace.specs.Reading.{Found, Reading, Given, Refused, andThen, tested, field, Header, headerAt, Placed, placedIn, placedAt, recordAt}
 use Rattle.trace.specs.Spelling.{spell, spelling, spellings, headerValues, readValues, Bytes}
 use Rattle.terms.specs.declared.Refusal.the-variants.{Form}
 use Rattle.terms.specs.Refusals.{numberOf}
@@ -142,7 +142,7 @@ header-spelled largest s y at =
     (λ n n₂ e₂ r₂. (spells-more s y at e n₁ (at + n₁ + n₂) (n ∷ []) e₁ (spells-more s y (at + n₁) n n₂ (at + n₁ + n₂) [] e₂ (spells-none s (at + n₁ + n₂))), (r₁, r₂))))
 
 pub record-spelled : (s : List ℕ) → Bytes s → (at : ℕ) → Gives (λ r end. Spells s at end (readValues r) × ReadOk r) (recordAt s at)
-unfolding placedAt
+unfolding placedAt placedIn
 record-spelled s y at =
     gives-read _ s at
     (gives-field _ volume s at _

@@ -15,7 +15,7 @@ use Rattle.terms.specs.Reads.{Read, readOf, ReadOk}
 use Rattle.trace.specs.declared.record.Record.{Record}
 use Rattle.trace.specs.declared.record.Record.the-variants as the-record
 use Rattle.trace.specs.Number.{Numeral, Value, Fault, numeral, numberAt, topByte, bytesBefore}
-use Rattle.trace.specs.Reading.{Reading, Given, Refused, tested, field, Placed, placedOf, placedAt, recordAt}
+use Rattle.trace.specs.Reading.{Reading, Given, Refused, tested, field, Placed, placedOf, placedIn, placedAt, formedAt, recordAt}
 use Rattle.trace.specs.Answers.{recordAnswer}
 use Rattle.trace.proofs.Ends.{Within, record-within}
 use Rattle.trace.proofs.OneSpelling.{Gives}
@@ -47,29 +47,46 @@ module _ {A : Type 0} (shift : A → A) where
 abbrev shifted : ℕ → Placed → Placed
 shifted at x = placedOf (x .read) (at + x .priorityAt)
 
-onward-placed : (s : List ℕ) (at : ℕ) → onward (shifted at) at (placedAt (drop at s) 0) ≡ placedAt s at
-unfolding placedAt
-onward-placed s at =
-    onward-field (shifted at) volume s at 0 _ _
+onward-placed : (volumes priorities : Range) (s : List ℕ) (at : ℕ)
+    → onward (shifted at) at (placedIn volumes priorities (drop at s) 0) ≡ placedIn volumes priorities s at
+unfolding placedIn
+onward-placed volumes priorities s at =
+    onward-field (shifted at) volumes s at 0 _ _
     (λ v i. onward-field (shifted at) block s at i _ _
-    (λ b j. onward-field (shifted at) priority s at j _ _ (λ p k. refl)))
-    ∙ ap (placedAt s) (add-zero at)
+    (λ b j. onward-field (shifted at) priorities s at j _ _ (λ p k. refl)))
+    ∙ ap (placedIn volumes priorities s) (add-zero at)
 
+-- in any ranges
+module _ (volumes priorities : Range) (s : List ℕ) (at : ℕ) (a b : Record) (e : recordAnswer a ≡ placedIn volumes priorities (take (length s - at) (drop at s)) 0) where
+  of-part : a ≡ b → placedIn volumes priorities s at ≡ onward (shifted at) at (recordAnswer b)
+  of-part g =
+      sym (ap (onward (shifted at) at) (e ∙ ap (λ (l : List ℕ). placedIn volumes priorities l 0) (part-to-end s at)) ∙ onward-placed volumes priorities s at)
+      ∙ ap (λ (x : Record). onward (shifted at) at (recordAnswer x)) g
+
+-- wide open
+module _ (s : List ℕ) (at : ℕ) (a : Record) (e : recordAnswer a ≡ formedAt (take (length s - at) (drop at s)) 0) where
+  pub formed-read : (v b p q n : ℕ) → a ≡ the-record.Read v b p q n → formedAt s at ≡ Given (placedOf (readOf v b p) (at + q)) (at + n)
+  unfolding formedAt
+  formed-read v b p q n g = of-part _ _ s at a (the-record.Read v b p q n) e g
+
+  pub formed-refused : (refusal : Refusal) (place : ℕ) → a ≡ the-record.Refused refusal place → formedAt s at ≡ Refused (numberOf refusal) (at + place)
+  unfolding formedAt
+  formed-refused refusal place g = of-part _ _ s at a (the-record.Refused refusal place) e g
+
+-- those of the format
 module _ (s : List ℕ) (at : ℕ) (a : Record) (e : recordAnswer a ≡ placedAt (take (length s - at) (drop at s)) 0) where
-  of-part : onward (shifted at) at (recordAnswer a) ≡ placedAt s at
-  of-part = ap (onward (shifted at) at) (e ∙ ap (λ (l : List ℕ). placedAt l 0) (part-to-end s at)) ∙ onward-placed s at
-
   module _ (v b p q n : ℕ) (g : a ≡ the-record.Read v b p q n) where
     pub placed-read : placedAt s at ≡ Given (placedOf (readOf v b p) (at + q)) (at + n)
-    placed-read = sym of-part ∙ ap (λ (x : Record). onward (shifted at) at (recordAnswer x)) g
+    unfolding placedAt
+    placed-read = of-part _ _ s at a (the-record.Read v b p q n) e g
 
     pub record-read : recordAt s at ≡ Given (readOf v b p) (at + n)
     unfolding recordAt
     record-read = rw placed-read
 
   pub record-refused : (refusal : Refusal) (place : ℕ) → a ≡ the-record.Refused refusal place → recordAt s at ≡ Refused (numberOf refusal) (at + place)
-  unfolding recordAt
-  record-refused refusal place g = let is = sym of-part ∙ ap (λ (x : Record). onward (shifted at) at (recordAnswer x)) g in rw is
+  unfolding recordAt placedAt
+  record-refused refusal place g = rw (of-part volume priority s at a (the-record.Refused refusal place) e g)
 
 -- ---- what holds of a record
 

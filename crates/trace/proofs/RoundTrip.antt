@@ -12,7 +12,7 @@ use borrow.Author.Tests.{le-ltb, le-leb, leb-true, ltb-false}
 use Rattle.terms.specs.Ranges.{Range, inRange, edition, sizeUpTo, size, volume, block, priority}
 use Rattle.trace.specs.Number.{Value, numeral, numberAt, topByte, bytesBefore}
 use Rattle.terms.specs.Reads.{Read, ReadOk}
-use Rattle.trace.specs.Reading.{Reading, Given, field, Header, headerAt, placedOf, placedAt, recordAt}
+use Rattle.trace.specs.Reading.{Reading, Given, field, Header, headerAt, placedOf, placedIn, placedAt, recordAt}
 use Rattle.trace.specs.Spelling.{spell, spelling, spellings, headerValues, readValues}
 use Rattle.trace.specs.Writing.{Writing, Length, Refused, ranged, spaced, put, headerWriting, recordWriting}
 use Rattle.trace.specs.Bounds.{limit, numberLimit}
@@ -79,7 +79,7 @@ priorityPlace r at = at + length (spelling (r .volume)) + length (spelling (r .b
 
 pub placed-back : (s : List ℕ) (at : ℕ) (r : Read) (rest : List ℕ) → ReadOk r → drop at s ≡ spellings (readValues r) ++ rest
     → placedAt s at ≡ Given (placedOf r (priorityPlace r at)) (at + length (spellings (readValues r)))
-unfolding placedAt
+unfolding placedAt placedIn
 placed-back s at r rest ok e =
     let e₁ = rest-spelled s at (r .volume) (r .block ∷ r .priority ∷ []) rest e in
     let e₂ = rest-spelled s (at + length (spelling (r .volume))) (r .block) (r .priority ∷ []) rest e₁ in

@@ -1,5 +1,4 @@
 -- What serves the writer of numbers.
 pub mod Laws
-pub mod Puts
 pub mod Turns
 pub mod Spaces

@@ -3,7 +3,7 @@ use Prim.Native.Nat.{ℕ, _+_}
 use mathlib.Core.Bool.{cond}
 use mathlib.Core.List.{List}
 use Rattle.terms.specs.Refusals.{numberOf}
-use Rattle.terms.specs.Ranges.{Range, inRange, edition, sizeUpTo, volume, block, priority}
+use Rattle.terms.specs.Ranges.{Range, inRange, edition, sizeUpTo, volumeUpTo, volume, block, priorityUpTo, priority}
 use Rattle.terms.specs.Reads.{Read, readOf}
 use Rattle.trace.specs.Number.{Numeral, Value, Fault, numberAt}
 
@@ -54,12 +54,20 @@ pub record Placed : Type 0 where
 abbrev pub placedOf : Read → ℕ → Placed
 placedOf r at = record { read = r; priorityAt = at }
 
--- the record at a place of the bytes: volume, block, priority; and where the priority stands
-unfoldable pub placedAt : List ℕ → ℕ → Reading Placed
-placedAt s at =
-    field volume s at (λ v at₁. field block s at₁ (λ b at₂. field priority s at₂ (λ p at₃. Given (placedOf (readOf v b p) at₂) at₃)))
+-- the record at a place of the bytes: volume, block, priority, in these ranges; and where the priority stands
+unfoldable pub placedIn : (volumes priorities : Range) → List ℕ → ℕ → Reading Placed
+placedIn volumes priorities s at =
+    field volumes s at (λ v at₁. field block s at₁ (λ b at₂. field priorities s at₂ (λ p at₃. Given (placedOf (readOf v b p) at₂) at₃)))
 
--- its read, without that place
+-- the record in the ranges of the format
+unfoldable pub placedAt : List ℕ → ℕ → Reading Placed
+placedAt s at = placedIn volume priority s at
+
+-- the same reading with the ranges wide open, as wide as the block's, which every number is in: only form and end are tested
+unfoldable pub formedAt : List ℕ → ℕ → Reading Placed
+formedAt s at = placedIn (volumeUpTo (block .largest)) (priorityUpTo (block .largest)) s at
+
+-- the read of the record in the ranges of the format, without the place of its priority
 unfoldable pub recordAt : List ℕ → ℕ → Reading Read
 recordAt s at = andThen (placedAt s at) (λ r end. Given (r .read) end)
 

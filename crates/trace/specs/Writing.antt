@@ -35,9 +35,10 @@ recordWriting r room at =
     ranged volume (r .volume)
     (ranged block (r .block) (ranged priority (r .priority) (spaced room at (length (spellings (readValues r))))))
 
--- the bytes xs in the place of those from an offset on
-abbrev pub put : List ℕ → ℕ → List ℕ → List ℕ
-put s at xs = take at s ++ (xs ++ drop (at + length xs) s)
+module _ {A : Type 0} where
+  -- the elements xs in the place of those from an offset on
+  abbrev pub put : List A → ℕ → List A → List A
+  put s at xs = take at s ++ (xs ++ drop (at + length xs) s)
 
 -- the buffer after the answer: all other bytes keep their values, and a refused write changes none
 abbrev pub bufferAfter : Writing → List ℕ → ℕ → List ℕ → List ℕ

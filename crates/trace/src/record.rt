@@ -4,11 +4,15 @@ use crate::number::Number;
 use crate::number::fault;
 use crate::number::read_number;
 use crate::spelling::write_numbers;
+use terms::LARGEST_BLOCK;
+use terms::LARGEST_PRIORITY;
+use terms::LARGEST_VOLUME;
 use terms::Refusal;
 ghost use mathlib.Core.Path.{_≡_};
 ghost use lib.ListN.{length, drop};
+ghost use Rattle.terms.specs.Ranges.{volumeUpTo, priorityUpTo};
 ghost use Rattle.terms.specs.Reads.{readOf};
-ghost use Rattle.trace.specs.Reading.{placedAt, recordAt, restStart, onwards};
+ghost use Rattle.trace.specs.Reading.{placedIn, placedAt, formedAt, recordAt, restStart, onwards};
 ghost use Rattle.trace.specs.Spelling.{spellings, readValues};
 ghost use Rattle.trace.specs.Writing.{recordWriting, bufferAfter};
 ghost use Rattle.trace.specs.Answers.{recordAnswer, writtenAnswer};
@@ -26,14 +30,15 @@ pub enum Record {
     Refused(Refusal, usize),
 }
 
-pub fn read_record(part: &[u8]) -> Record
-    ensures { λ r. ⌜ recordAnswer r ≡ placedAt (now (part .entry)) 0 ⌝ }
+// The record at the front of a part, its volume and its priority no larger than these.
+fn record_up_to(part: &[u8], volumes: u64, priorities: u64) -> Record
+    ensures { λ r. ⌜ recordAnswer r ≡ placedIn (volumeUpTo volumes) (priorityUpTo priorities) (now (part .entry)) 0 ⌝ }
 {
     let first = read_number(part, 0);
     let Number::Value(volume, at_block) = first else {
         return Record::Refused(fault(first), 0);
     };
-    if !terms::is_volume(volume) {
+    if !terms::is_volume_up_to(volume, volumes) {
         return Record::Refused(Refusal::Volume, 0);
     }
     let second = read_number(part, at_block);
@@ -45,7 +50,7 @@ pub fn read_record(part: &[u8]) -> Record
     let Number::Value(priority, priority_length) = third else {
         return Record::Refused(fault(third), at_priority);
     };
-    if !terms::is_priority(priority) {
+    if !terms::is_priority_up_to(priority, priorities) {
         return Record::Refused(Refusal::Priority, at_priority);
     }
     Record::Read {
@@ -55,6 +60,19 @@ pub fn read_record(part: &[u8]) -> Record
         priority_at: at_priority,
         length: at_priority + priority_length,
     }
+}
+
+pub fn read_record(part: &[u8]) -> Record
+    ensures { λ r. ⌜ recordAnswer r ≡ placedAt (now (part .entry)) 0 ⌝ }
+{
+    record_up_to(part, LARGEST_VOLUME, LARGEST_PRIORITY)
+}
+
+// The same reading with the ranges wide open: it tells where a record of well-formed numbers ends.
+pub fn read_form(part: &[u8]) -> Record
+    ensures { λ r. ⌜ recordAnswer r ≡ formedAt (now (part .entry)) 0 ⌝ }
+{
+    record_up_to(part, LARGEST_BLOCK, LARGEST_BLOCK)
 }
 
 // The part after one record, or the whole part where that is refused.

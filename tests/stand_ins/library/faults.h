@@ -38,6 +38,44 @@ enum fault {
     written_no_hint_refused, /* a writer refuses priority 0 */
     no_hint_written_as_one, /* a writer writes 1 for priority 0 */
 
+    /* salvages */
+    offset_in_records, /* an entry's offset counts from the first record */
+    offset_of_number, /* an entry's offset is that of the number at fault */
+    offset_16_bits, /* an entry's offset is cut to 16 bits */
+    dropped_16_bits, /* an entry's length is cut to 16 bits */
+    dropped_one_short, /* the entry of what is dropped at a FORM or a CUT is one byte too short */
+    dropped_unlisted, /* what is dropped at a FORM or a CUT is not listed */
+    end_for_length, /* an entry has an end where its length should be */
+    number_32_bits, /* of an entry's number only the lower half is written */
+    second_fault, /* a record with two faults is listed under the second */
+    form_before_volume, /* a volume out of range with a FORM behind it is listed under FORM */
+    cut_before_volume, /* a volume out of range with a CUT behind it is listed under CUT */
+    form_skips_record, /* a FORM leaves out its own record alone */
+    volume_skips_form, /* a volume out of range with a FORM behind it leaves out its own record alone */
+    volume_drops_rest, /* a volume out of range drops the rest */
+    priority_drops_rest, /* a priority out of range drops the rest */
+    kept_and_listed, /* a record that is kept is listed too */
+    neighbours_merged, /* records left out in a row for one reason are one entry */
+    no_hint_kept_as_one, /* a record with priority 0 is kept with priority 1 */
+    header_not_copied, /* the good trace has no header */
+    header_uncounted, /* the header is not counted in the bytes that are told */
+    entries_one_more, /* one entry more is told than there are */
+    entries_16_bits, /* the number of entries that is told is cut to 16 bits */
+    zero_after_good, /* a byte of 0 is written after the good trace */
+    entry_after_list, /* an entry of zeros is written after the list */
+    header_place_untold, /* a salvage tells no place for a header */
+    space_before_header, /* an output of no length is refused before a header's fault */
+    space_told, /* a salvage without space tells the place 0 */
+    space_after_bytes, /* the bytes are written before the space is tested */
+    space_after_entry, /* the first entry is written before the space is tested */
+    space_untested, /* an output that is too short takes what fits */
+    room_untested, /* a list that is too short takes what fits */
+    whole_space_asked, /* the output has to be as long as the trace */
+    whole_room_asked, /* the list has to be as long as any trace of the length can need */
+    good_16_bits, /* the length of the output is cut to 16 bits */
+    list_16_bits, /* the length of the list is cut to 16 bits */
+    salvaged_16_bits, /* the length of a trace to salvage is cut to 16 bits */
+
     /* runs */
     counts_33_to_126, /* the counts are wrong for every N from 33 to 126 */
     one_size_at_77, /* at N = 77 the counts of size 32 are those of size 31 */

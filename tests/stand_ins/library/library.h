@@ -9,6 +9,9 @@
 struct reading header_of(const uint8_t *trace, size_t length);
 struct reading record_of(const uint8_t *trace, size_t length, size_t at);
 
+/* A record by the form of its numbers alone. */
+struct reading formed_of(const uint8_t *trace, size_t length, size_t at);
+
 /* Puts values into out, as far as they fit. */
 void tell(uint64_t *out, size_t out_length, const uint64_t *values, size_t count);
 

@@ -65,6 +65,11 @@ struct reading record_of(const uint8_t *trace, size_t length, size_t at) {
     return read_fields(trace, length, at, fields, 3);
 }
 
+struct reading formed_of(const uint8_t *trace, size_t length, size_t at) {
+    const struct field any = {UINT32_MAX, 0, UINT32_MAX, 0}, fields[] = {any, any, any};
+    return read_fields(trace, length, at, fields, 3);
+}
+
 /* Tells so many values and the end of what was read, or the place of its refusal. */
 static uint32_t told(struct reading found, size_t values, uint64_t *out, size_t out_length) {
     uint64_t all[4] = {found.place};

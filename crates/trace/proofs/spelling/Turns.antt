@@ -11,7 +11,7 @@ use Rattle.trace.specs.Spelling.{spelling, spellings}
 use Rattle.trace.specs.Writing.{put}
 use Rattle.trace.specs.Bounds.{Spelled}
 use Rattle.trace.proofs.spelling.Laws.{next-value, next-spelled, next-length, last-value}
-use Rattle.trace.proofs.spelling.Puts.{put-none, put-put, put-part, put-length}
+use Rattle.trace.proofs.Puts.{put-none, put-put, put-part, put-length}
 
 -- the buffer at the start, the offset and the values; then the buffer, the place and the index of what is left
 abbrev pub Left : List ℕ → ℕ → List ℕ → List ℕ → ℕ → ℕ → Type 0

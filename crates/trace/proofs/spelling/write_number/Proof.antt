@@ -7,7 +7,7 @@ use Rattle.trace.specs.Spelling.{spelling}
 use Rattle.trace.specs.Writing.{put}
 use Rattle.trace.specs.Bounds.{numberLimit}
 use Rattle.trace.proofs.spelling.Laws.{spelling-short, spelling-low, spelling-high, length-low, length-high}
-use Rattle.trace.proofs.spelling.Puts.{put-cons, put-byte}
+use Rattle.trace.proofs.Puts.{put-cons, put-one}
 use Rattle.trace.proofs.spelling.write_number.Statement.{statement}
 use Rattle.trace.proofs.spelling.write_number.Tie as tie
 
@@ -53,7 +53,7 @@ returns : tie.Need-returns Inv-loop μ-loop
 returns c =
     let l = c .before .loop in (
       omega (arith, length-low (l .rest) (c .loop-test .left)),
-      put-byte (l .part) (l .at) (l .rest) (slice-write-part-2 c) ∙ ap (put (l .part) (l .at)) (sym (spelling-low (l .rest) (c .loop-test .left))) ∙ l .inv .3,
+      put-one (l .part) (l .at) (l .rest) (slice-write-part-2 c) ∙ ap (put (l .part) (l .at)) (sym (spelling-low (l .rest) (c .loop-test .left))) ∙ l .inv .3,
     )
 
 pub write-number-spec : {M : Type 1} → statement M

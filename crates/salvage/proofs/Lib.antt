@@ -1,0 +1,9 @@
+pub mod Onward
+pub mod Covers
+pub mod Once
+pub mod Turns
+pub mod Headers
+pub mod Listings
+pub mod Rooms
+pub mod Accepted
+pub mod Determined

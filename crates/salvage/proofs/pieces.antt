@@ -1,0 +1,2 @@
+-- What serves the reader of a piece.
+pub mod Cases
