@@ -41,7 +41,7 @@ fn slot_of(outcome: u32) -> usize
 }
 
 // How many outcomes were added: none where the number is no outcome, or its count is full.
-#[derive(Drop)]
+#[derive(Clone, Copy)]
 pub enum Counted {
     Added(u64),
     Refused(Refusal),

@@ -3,7 +3,7 @@ ghost use Rattle.std.specs.Prelude.{◌≡◌};
 ghost use Rattle.card.specs.Ratio.{ratio_of};
 ghost use Rattle.card.specs.Answers.{ratio_answer};
 
-#[derive(Drop)]
+#[derive(Clone, Copy)]
 pub enum MissRatio {
     Ratio(f64),
     NoRatio,

@@ -9,19 +9,19 @@ use crate::state::is_state;
 use terms::{LARGEST_SIZE, Refusal};
 
 // A size, and the places from the top: those after the size are empty.
-#[derive(Drop)]
+#[derive(Clone, Copy)]
 pub struct Card {
     pub size: usize,
     pub places: [u64; LARGEST_SIZE],
 }
 
-#[derive(Drop)]
+#[derive(Clone, Copy)]
 pub enum Answer {
     Outcome(u32),
     Refused(Refusal),
 }
 
-#[derive(Drop)]
+#[derive(Clone, Copy)]
 pub struct Stepped {
     pub answer: Answer,
     pub card: Card,

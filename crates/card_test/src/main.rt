@@ -1,4 +1,6 @@
 // Figures of the card rule: each line that is printed is a read and its answer.
+#![tactic(auto)]
+
 use card::ratio::MissRatio;
 use card::step::{Answer, Card};
 use libc::STDOUT_FILENO;

@@ -1,2 +1,4 @@
 // The counts of each size, from tallies.
+#![tactic(auto)]
+
 pub mod tallies;

@@ -1,4 +1,6 @@
 // One read at all sizes, on the areas of one card.
+#![tactic(auto)]
+
 pub mod lists;
 pub mod reads;
 mod renewals;

@@ -12,7 +12,7 @@ use terms::numbers::smaller;
 pub const LIST_ROOM: usize = LARGEST_SIZE + 3;
 
 // A cursor into a list of stretches: the entries passed, the place now in force, and the first size of the next stretch, past every size where there is none.
-#[derive(Drop)]
+#[derive(Clone, Copy)]
 pub struct Cursor {
     pub passed: usize,
     pub place: u16,

@@ -10,7 +10,7 @@ use card::places::{at_least_one, move_from, place_of};
 use terms::numbers::larger;
 
 // The total of stretches, its peak, and the peak of one block.
-#[derive(Drop)]
+#[derive(Clone, Copy)]
 pub struct Sums {
     pub now: usize,
     pub most: usize,

@@ -10,7 +10,7 @@ use crate::rows::{
 use terms::numbers::larger;
 
 // A read as the rows see it: the size of the largest card, the length of the longest row, the priority in reach, and the place of the block read in the largest card.
-#[derive(Drop)]
+#[derive(Clone, Copy)]
 pub struct RowRead {
     pub n: u16,
     pub width: usize,

@@ -9,7 +9,7 @@ use crate::lists::{copy_list, fill, merge, write_pair};
 use terms::LARGEST_SIZE;
 
 // How the number of stretches changed, and the length of the longest list that was made.
-#[derive(Drop)]
+#[derive(Clone, Copy)]
 pub struct Changes {
     pub gained: usize,
     pub lost: usize,
@@ -17,7 +17,7 @@ pub struct Changes {
 }
 
 // Where a row starts in the stretch area, and how many numbers it has room for.
-#[derive(Drop)]
+#[derive(Clone, Copy)]
 pub struct Span {
     pub start: usize,
     pub room: usize,

@@ -2,14 +2,14 @@
 use terms::Refusal;
 
 // What a finished run tells: the reads, and the peaks of the stretches of all blocks and of one.
-#[derive(Drop)]
+#[derive(Clone, Copy)]
 pub struct Report {
     pub reads: u64,
     pub total: u64,
     pub one: u64,
 }
 
-#[derive(Drop)]
+#[derive(Clone, Copy)]
 pub enum Ran {
     Done(Report),
     // Why, and the offset of the number at fault.

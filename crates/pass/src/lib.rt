@@ -1,3 +1,5 @@
 // What every run does around its events.
+#![tactic(auto)]
+
 pub mod answers;
 pub mod areas;

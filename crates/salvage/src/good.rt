@@ -12,14 +12,14 @@ use terms::LARGEST_SIZE;
 use trace::header::{Header, read_header};
 
 // How many bytes are kept and how many entries are listed.
-#[derive(Drop)]
+#[derive(Clone, Copy)]
 struct Need {
     bytes: usize,
     entries: usize,
 }
 
 // The answer; and for the list, the place from which to look for its first entry and how many entries it is to hold.
-#[derive(Drop)]
+#[derive(Clone, Copy)]
 pub struct Kept {
     pub answer: Salvaged,
     pub start: usize,

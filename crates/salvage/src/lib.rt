@@ -1,4 +1,6 @@
 // Salvage: a good trace from one with bad records, and a list of what was left out.
+#![tactic(auto)]
+
 ghost use Rattle.std.specs.Prelude.{◌≡◌, ◌≤◌, length};
 ghost use Rattle.salvage.specs.Good.{good_of};
 ghost use Rattle.salvage.specs.Listing.{list_of};
@@ -15,14 +17,14 @@ mod pieces;
 
 // Bytes that were left out: their offset in the trace, how many they are, and the number of the refusal.
 #[repr(C)]
-#[derive(Drop)]
+#[derive(Clone, Copy)]
 pub struct Entry {
     pub offset: u64,
     pub length: u64,
     pub number: u64,
 }
 
-#[derive(Drop)]
+#[derive(Clone, Copy)]
 pub enum Salvaged {
     // The bytes of the good trace and the entries of the list.
     Written { bytes: usize, entries: usize },

@@ -7,7 +7,7 @@ use crate::Entry;
 use crate::pieces::piece_at;
 
 // An entry, and the place after its piece.
-#[derive(Drop)]
+#[derive(Clone, Copy)]
 pub struct Next {
     pub entry: Entry,
     pub at: usize,

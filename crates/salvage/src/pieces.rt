@@ -9,7 +9,7 @@ use terms::{Refusal, refusal_number};
 use trace::record::{Record, read_form, read_record};
 
 // How long a piece is, how many of its bytes are kept, how many entries it has, and the number of the refusal.
-#[derive(Drop)]
+#[derive(Clone, Copy)]
 pub struct Piece {
     pub length: usize,
     pub kept: usize,

@@ -3,6 +3,8 @@
 // A case is a head of seven bytes and a trace: the trace's length, the output's length, and how many entries the list has
 // room for, each as two bytes, lower first, and the byte that fills the output before the salvage.
 // The list is printed entry by entry, as it is made, and not lent: tests/boundary lends one from C.
+#![tactic(auto)]
+
 ghost use Rattle.std.specs.Prelude.{◌<◌, ◌≤◌, length};
 
 use libc::STDOUT_FILENO;

@@ -1,4 +1,6 @@
 // Prints the sheet of the trace on standard input, or says on standard error why there is none.
+#![tactic(auto)]
+
 ghost use Rattle.std.specs.Prelude.{◌≡◌, ◌≤◌, length};
 ghost use Rattle.sheet_text.specs.Desk.{printed_of};
 ghost use Rattle.sheet_text.specs.Sheet.{longest_sheet, Shows};
@@ -16,7 +18,7 @@ const LONGEST_SHEET: usize = 32768;
 const TRIES: u32 = 1000000;
 
 // What was read of the input: so many bytes, and whether they are all that the program wants of it.
-#[derive(Drop)]
+#[derive(Clone, Copy)]
 struct Taken {
     length: usize,
     whole: bool,

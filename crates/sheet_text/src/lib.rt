@@ -1,4 +1,6 @@
 // The sheet as text.
+#![tactic(auto)]
+
 pub mod desk;
 pub mod sheet;
 mod text;

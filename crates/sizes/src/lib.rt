@@ -1,2 +1,4 @@
 // All sizes in one pass.
+#![tactic(auto)]
+
 pub mod run;

@@ -2,6 +2,8 @@
 //
 // A case is a head of nine bytes and a trace: the trace's length, the lengths of the block, stretch and count areas,
 // each as two bytes, lower first, and the byte that fills the areas before the run.
+#![tactic(auto)]
+
 ghost use Rattle.std.specs.Prelude.{◌<◌, ◌≤◌, length};
 
 use libc::STDOUT_FILENO;
@@ -122,7 +124,7 @@ fn say_changed_pairs(area: &[u16], value: u16) {
 }
 
 // The lengths of the parts of the three areas that are lent.
-#[derive(Drop)]
+#[derive(Clone, Copy)]
 struct Lengths {
     blocks: usize,
     stretches: usize,

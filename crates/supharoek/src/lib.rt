@@ -3,6 +3,8 @@
 //
 // A call answers the refusal's number, 0 where nothing is refused, and puts the values that it tells at the front of
 // the caller's numbers, as far as they fit. include/supharoek.h says the same in C's words.
+#![tactic(auto)]
+
 pub mod calls;
 pub mod salvaging;
 pub mod steps;

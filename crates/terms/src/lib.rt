@@ -1,4 +1,6 @@
 // The words that every layer shares: the refusals and the ranges of the numbers.
+#![tactic(auto)]
+
 ghost use Rattle.std.specs.Prelude.{◌≡◌, ◌&&◌, leb};
 ghost use Rattle.terms.specs.Refusals.{number_of};
 ghost use Rattle.terms.specs.Ranges.{in_range, edition, size_up_to, volume_up_to, volume, priority_up_to, priority};
@@ -6,7 +8,7 @@ ghost use Rattle.terms.specs.Ranges.{in_range, edition, size_up_to, volume_up_to
 pub mod numbers;
 
 // Why a call refuses its input.
-#[derive(Drop)]
+#[derive(Clone, Copy)]
 pub enum Refusal {
     Cut,
     Form,

@@ -10,7 +10,7 @@ use crate::number::{Number, fault, read_number};
 use crate::spelling::write_numbers;
 use terms::{LARGEST_SIZE, Refusal};
 
-#[derive(Drop)]
+#[derive(Clone, Copy)]
 pub enum Header {
     Accepted {
         edition: u64,

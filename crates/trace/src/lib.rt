@@ -1,4 +1,6 @@
 // Traces: numbers, headers and records, read and written.
+#![tactic(auto)]
+
 use terms::Refusal;
 
 pub mod header;
@@ -7,7 +9,7 @@ pub mod record;
 mod spelling;
 
 // The length written, or why nothing was.
-#[derive(Drop)]
+#[derive(Clone, Copy)]
 pub enum Written {
     Length(usize),
     Refused(Refusal),

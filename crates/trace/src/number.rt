@@ -8,7 +8,7 @@ ghost use Rattle.trace.specs.Bounds.{Small};
 use terms::Refusal;
 
 // A value and its length in bytes.
-#[derive(Drop)]
+#[derive(Clone, Copy)]
 pub enum Number {
     Value(u64, usize),
     Refused(Refusal),

@@ -12,7 +12,7 @@ use crate::number::{Number, fault, read_number};
 use crate::spelling::write_numbers;
 use terms::{LARGEST_BLOCK, LARGEST_PRIORITY, LARGEST_VOLUME, Refusal};
 
-#[derive(Drop)]
+#[derive(Clone, Copy)]
 pub enum Record {
     Read {
         volume: u64,

@@ -1,4 +1,6 @@
 // Figures of the trace format: each line that is printed is a question and its answer.
+#![tactic(auto)]
+
 ghost use Rattle.std.specs.Prelude.{◌≤◌, length};
 
 use libc::STDOUT_FILENO;

@@ -1,0 +1,30 @@
+-- `counts::tallies::begin` meets its contract.
+use mathlib.Core.Path.{refl}
+use native.Mathlib.Omega.{arith}
+use borrow.Author.Rules.{rules}
+use Rattle.counts.proofs.tallies.Bumps.{room_left, begun_insert, begun_bypass}
+use Rattle.counts.proofs.tallies.begin.Goals as goal
+
+pub bump-requires : goal.bump-requires
+bump-requires c =
+    record { some = search rules; column = search rules; room = room_left 0 c.requires.room (omega arith) refl (λ x. omega arith) }
+
+pub bump-requires-then-p-first : goal.bump-requires-then-p-first
+bump-requires-then-p-first c =
+    let first = c.before in
+    record { some = search rules; column = search rules; room = room_left 1 first.before.before.before.before.requires.room (omega arith) (search rules) first.bump.ensures.1 }
+
+pub returns-then-p-first : goal.returns-then-p-first
+returns-then-p-first c = (search begun_insert, λ x. omega (arith, c.bump.ensures.1 x, c.bump-then-p-first.ensures.1 x))
+
+pub bump-requires-2 : goal.bump-requires-2
+bump-requires-2 c =
+    record { some = search rules; column = search rules; room = room_left 0 c.requires.room (omega arith) refl (λ x. omega arith) }
+
+pub bump-requires-3 : goal.bump-requires-3
+bump-requires-3 c =
+    let first = c.before in
+    record { some = search rules; column = search rules; room = room_left 1 first.before.before.before.before.requires.room (omega arith) (search rules) first.bump3.ensures.1 }
+
+pub returns : goal.returns
+returns c = (search begun_bypass, λ x. omega (arith, c.bump-2.ensures.1 x, c.bump-3.ensures.1 x))

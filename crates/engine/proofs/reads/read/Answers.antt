@@ -1,0 +1,48 @@
+-- `engine::reads::read` meets its contract: a block is found, moved and tallied. Assumes nothing.
+use mathlib.Core.Path.{sym, ◌∙◌}
+use native.Mathlib.Omega.{arith}
+use Rattle.terms.proofs.Areas.{zeros_at}
+use Rattle.engine.proofs.reads.ReadLaws.{tallied_found}
+use Rattle.engine.proofs.Widths.{list_room, list_room_lem}
+use Rattle.engine.proofs.reads.read.Goals as goal
+
+pub find-j-requires : goal.find-j-requires
+find-j-requires c =
+    let start = c.before.before.before.before.before.before.before.before{-?-} in
+    record {
+      areas = start.requires.areas;
+      keyed = start.requires.keyed;
+      list_wide = list_room_lem start.args.n start.requires.areas.within;
+      blank = λ x. zeros_at list_room x;
+    }
+
+pub move_block-after-requires : goal.move_block-after-requires
+move_block-after-requires c =
+    let start = c.before.before.before.before.before.before.before.before.before.before.before.before.before.before{-?-} in
+    let find = c.find-j in
+    record {
+      areas = start.requires.areas;
+      keyed = start.requires.keyed;
+      somewhere = omega (arith, c.at_least_one.ensures);
+      list_wide = omega (arith, find.auto, list_room_lem start.args.n start.requires.areas.within);
+      found = find.ensures;
+      scratch_wide = start.requires.scratch_wide;
+      underway = start.requires.underway;
+    }
+
+pub returns : goal.returns
+returns c =
+    let start = c.before.before.before.before.before.before.before.before.before.before.before.before.before.before.before.before.before.before.before.before.before.before.before.before.before.before{-?-} in
+    let one = c.at_least_one.ensures in
+    let found = c.find-j.ensures in
+    let tallied = c.tally_list.ensures in
+    let moved = c.move_block-after.ensures in (
+      (λ rs r ek ew held. moved.0 rs r ek (ew ∙ sym one) held),
+      (
+        (λ rs held. tallied_found _ _ _ _ _ rs _ _ _ start.requires.keyed (found rs held) tallied.0 one),
+        (
+          (λ rs r ek ew held covered. moved.1 rs r ek (ew ∙ sym one) held covered),
+          tallied.1,
+        ),
+      ),
+    )

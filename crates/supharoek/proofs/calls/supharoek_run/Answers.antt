@@ -1,0 +1,16 @@
+-- `supharoek::calls::supharoek_run` meets its contract: each arm is a case of the answer. Assumes nothing.
+use mathlib.Core.Path.{refl}
+use Rattle.pass.specs.Answers.{ran_answer}
+use Rattle.supharoek.specs.Told.{run_told}
+use Rattle.supharoek.proofs.told.Tellings.{told_case}
+use Rattle.supharoek.proofs.calls.supharoek_run.Goals as goal
+
+pub returns-in-Done : goal.returns-in-Done
+returns-in-Done c =
+    let said = c.run.ensures in
+    (told_case ran_answer run_told c.args.out.now _ _ _ said.0 _ c.report-1.given.1 _ _ _ refl refl c.tell.ensures, said.1)
+
+pub returns-in-Refused : goal.returns-in-Refused
+returns-in-Refused c =
+    let said = c.run.ensures in
+    (told_case ran_answer run_told c.args.out.now _ _ _ said.0 _ c.why-1.given.1 _ _ _ refl c.refusal_number.ensures c.tell_one.ensures, said.1)

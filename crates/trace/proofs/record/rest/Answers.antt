@@ -1,0 +1,28 @@
+-- `trace::record::rest` meets its contract: the rest starts where `rest_start` says. Assumes nothing.
+use mathlib.Core.Path.{refl, sym, ap}
+use Prim.Native.Nat.{ℕ}
+use native.Mathlib.Nat.{zero-add}
+use native.Mathlib.Omega.{arith}
+use borrow.Author.Rules.{part_to_end}
+use Rattle.trace.proofs.record.Rests.{rest_refused, rest_after, rest_in}
+use Rattle.trace.proofs.record.rest.Goals as goal
+
+pub returns-in_default : goal.returns-in_default
+returns-in_default c =
+    let pointer = c.args.part.ptr in
+    rw (rest_refused c.args.part.now _ c.read_record-record.ensures _ _ c.enum_told-1.given.1) (refl, ap (λ (n : ℕ). (pointer.0, n)) (sym (zero-add pointer.1)))
+
+pub slice_bounds-result-count : goal.slice_bounds-result-count
+slice_bounds-result-count c =
+    let s = c.args.part.now in
+    omega (arith, rest_in s, rest_after s _ c.read_record-record.ensures _ _ _ _ _ c.before.«record».given.1)
+
+pub slice_bounds-result-start : goal.slice_bounds-result-start
+slice_bounds-result-start c =
+    let s = c.args.part.now in
+    omega (arith, rest_in s, rest_after s _ c.read_record-record.ensures _ _ _ _ _ c.before.«record».given.1)
+
+pub returns : goal.returns
+returns c =
+    let s = c.args.part.now in
+    rw (rest_after s _ c.read_record-record.ensures _ _ _ _ _ c.before.«record».given.1) (part_to_end s _, refl)
