@@ -11,11 +11,15 @@ bump-requires c =
 
 pub bump-requires-then-p-first : goal.bump-requires-then-p-first
 bump-requires-then-p-first c =
-    let first = c.before in
+    let first = c in
     record { some = search rules; column = search rules; room = room_left 1 first.before.before.before.before.requires.room (omega arith) (search rules) first.bump.ensures.1 }
 
 pub returns-then-p-first : goal.returns-then-p-first
-returns-then-p-first c = (search begun_insert, λ x. omega (arith, c.bump.ensures.1 x, c.bump-then-p-first.ensures.1 x))
+returns-then-p-first c =
+    record {
+      exact = search begun_insert;
+      small = λ x. omega (arith, c.bump.ensures.small x, c.bump-then-p-first.ensures.small x);
+    }
 
 pub bump-requires-2 : goal.bump-requires-2
 bump-requires-2 c =
@@ -23,8 +27,12 @@ bump-requires-2 c =
 
 pub bump-requires-3 : goal.bump-requires-3
 bump-requires-3 c =
-    let first = c.before in
+    let first = c in
     record { some = search rules; column = search rules; room = room_left 1 first.before.before.before.before.requires.room (omega arith) (search rules) first.bump3.ensures.1 }
 
 pub returns : goal.returns
-returns c = (search begun_bypass, λ x. omega (arith, c.bump-2.ensures.1 x, c.bump-3.ensures.1 x))
+returns c =
+    record {
+      exact = search begun_bypass;
+      small = λ x. omega (arith, c.bump-2.ensures.small x, c.bump-3.ensures.small x);
+    }

@@ -8,20 +8,20 @@ loop-m-init c = search none_counted
 
 pub add_size-requires : goal.add_size-requires
 add_size-requires c =
-    let loop = c.loop in
-    let start = c.before in
+    let loop = c.loop-m in
+    let start = c in
     add_ready _ _ _ start.requires _ _ _ loop.invariant (omega arith) (omega arith)
 
 pub write_size-requires : goal.write_size-requires
 write_size-requires c =
-    let added = c.before in
+    let added = c in
     let loop = added.before.before.before.before.loop in
     let start = added.before.before.before.before.before.before in
     write_ready _ _ _ start.requires _ _ _ loop.invariant (omega arith) _ added.add-size.ensures added.add-size.auto.0
 
 pub loop-m-preserved : goal.loop-m-preserved
 loop-m-preserved c =
-    let wrote = c.before in
+    let wrote = c in
     let added = wrote.before.before.before.before in
     let loop = added.before.before.before.before.loop in
     let start = added.before.before.before.before.before.before in

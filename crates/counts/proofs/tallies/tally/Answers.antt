@@ -7,18 +7,18 @@ use Rattle.counts.proofs.tallies.tally.Goals as goal
 
 pub bump-requires : goal.bump-requires
 bump-requires c =
-    let begun = c.before in
+    let begun = c in
     record { some = search rules; column = search rules; room = room_left 2 begun.before.before.before.requires.room (omega arith) (search rules) begun.begin.ensures.1 }
 
 pub bump-requires-2 : goal.bump-requires-2
 bump-requires-2 c =
-    let marked = c.before in
+    let marked = c in
     let begun = marked.before.before.before.before.before in
     record { some = search rules; column = search rules; room = room_left 3 begun.before.before.before.requires.room (omega arith) (search rules) (λ x. omega (arith, begun.begin.ensures.1 x, marked.bump.ensures.1 x)) }
 
 pub returns : goal.returns
 returns c =
-    let ended = c.before in
+    let ended = c in
     let last = ended.before in
     let marked = last.before.before.before.before in
     let later = marked.before in
@@ -34,5 +34,7 @@ returns c =
       begins = begun.begin.ensures.0;
       marks = marked.bump.ensures.0;
       ends = ended.bump2.ensures.0;
-    } in
-    ((λ J fall parts. read_tallied steps J a.reached a.above fall parts later.larger.ensures last.larger2.ensures), read_small steps)
+    } in record {
+      tallied = (λ J fall parts. read_tallied steps J a.reached a.above fall parts later.larger.ensures last.larger2.ensures);
+      small = read_small steps;
+    }

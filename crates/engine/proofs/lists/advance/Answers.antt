@@ -11,11 +11,15 @@ returns-then-cursor-s c =
     let at = c.args in
     let r = c.next_stretch.result in
     let hit = c.if-cursor-s.true in
-    let on = c.next_stretch.ensures in
-    (omega (arith, on.0), λ J t good begins es hs a. subst (λ (z : ℕ). At J at.n z r.passed r.place r.next) hit (on.1 J t good begins (omega arith) (omega (arith, hit)) a))
+    let on = c.next_stretch.ensures in record {
+      passed = omega (arith, on.passed);
+      at = λ J t good begins es hs a. subst (λ (z : ℕ). At J at.n z r.passed r.place r.next) hit (on.at J t good begins (omega arith) (omega (arith, hit)) a);
+    }
 
 pub returns : goal.returns
 returns c =
     let at = c.args in
-    let x = at.cursor in
-    (omega arith, λ J t good begins es hs a. at_still J at.n t x.passed x.place x.next at.s good (omega arith) a (omega arith) (omega (arith, c.if-cursor-s.false, at_later J at.n t x.passed x.place x.next (omega arith) a)))
+    let x = at.cursor in record {
+      passed = omega arith;
+      at = λ J t good begins es hs a. at_still J at.n t x.passed x.place x.next at.s good (omega arith) a (omega arith) (omega (arith, c.if-cursor-s.false, at_later J at.n t x.passed x.place x.next (omega arith) a));
+    }

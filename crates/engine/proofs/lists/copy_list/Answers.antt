@@ -16,8 +16,11 @@ returns-then-v-eq0 c =
     let l = c.loop-x in
     let row = c.args.row.now in
     let z = c.if-v-eq0.true in
-    let e = copied row l.out c.args.out.now l.x (omega arith) l.invariant.2 l.invariant.3 l.invariant.4 (get_or row l.x 0) z z in
-    (omega arith, e)
+    let e = copied row l.out c.args.out.now l.x (omega arith) l.invariant.2 l.invariant.3 l.invariant.4 (get_or row l.x 0) z z in record {
+      range = omega arith;
+      begins = e.0;
+      beyond = e.1;
+    }
 
 pub loop-x-preserved : goal.loop-x-preserved
 loop-x-preserved c =
@@ -38,5 +41,8 @@ pub returns : goal.returns
 returns c =
     let l = c.loop-x in
     let row = c.args.row.now in
-    let e = copied row l.out c.args.out.now l.x (omega arith) l.invariant.2 l.invariant.3 l.invariant.4 0 refl (get_or-eq_default row 0 (omega arith)) in
-    (omega arith, e)
+    let e = copied row l.out c.args.out.now l.x (omega arith) l.invariant.2 l.invariant.3 l.invariant.4 0 refl (get_or-eq_default row 0 (omega arith)) in record {
+      range = omega arith;
+      begins = e.0;
+      beyond = e.1;
+    }

@@ -13,8 +13,10 @@ loop-x-init c = (omega arith, λ k h. absurd (omega arith))
 
 pub returns-then-list-x-eq0 : goal.returns-then-list-x-eq0
 returns-then-list-x-eq0 c =
-    let l = c.loop-x in
-    (omega arith, λ R n fits begins. entries_counted c.args.list.now l.x R n l.invariant.1 (inl c.if-list-x-eq0.true) begins)
+    let l = c.loop-x in record {
+      range = omega arith;
+      counted = λ R n fits begins. entries_counted c.args.list.now l.x R n l.invariant.1 (inl c.if-list-x-eq0.true) begins;
+    }
 
 pub loop-x-preserved : goal.loop-x-preserved
 loop-x-preserved c =
@@ -27,5 +29,7 @@ loop-x-preserved c =
 
 pub returns : goal.returns
 returns c =
-    let l = c.loop-x in
-    (omega arith, λ R n fits begins. entries_counted c.args.list.now l.x R n l.invariant.1 (inr (omega (arith, c.loop-x-test.false))) begins)
+    let l = c.loop-x in record {
+      range = omega arith;
+      counted = λ R n fits begins. entries_counted c.args.list.now l.x R n l.invariant.1 (inr (omega (arith, c.loop-x-test.false))) begins;
+    }

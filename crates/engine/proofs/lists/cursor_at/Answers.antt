@@ -11,29 +11,29 @@ loop-x-init c =
 pub returns-then-list-x : goal.returns-then-list-x
 returns-then-list-x c =
     let at = c.args in
-    let l = c.loop-x in (
-      l.invariant.0,
-      λ J good begins h.
+    let l = c.loop-x in record {
+      passed = l.invariant.0;
+      at = λ J good begins h.
           let i = l.invariant.1 J good begins h in
-          absurd (omega (arith, at_end J at.list.now at.n i.0 l.x.passed l.x.place l.x.next begins (omega (arith, i.1)) (omega arith) i.2)),
-    )
+          absurd (omega (arith, at_end J at.list.now at.n i.0 l.x.passed l.x.place l.x.next begins (omega (arith, i.1)) (omega arith) i.2));
+    }
 
 pub loop-x-preserved : goal.loop-x-preserved
 loop-x-preserved c =
     let l = c.loop-x in
     let on = c.next_stretch-x.ensures in (
-      omega (arith, on.0),
+      omega (arith, on.passed),
       λ J good begins h.
           let i = l.invariant.1 J good begins h in
-          (l.x.next, omega arith, on.1 J i.0 good begins (omega (arith, i.1)) (omega arith) i.2),
+          (l.x.next, omega arith, on.at J i.0 good begins (omega (arith, i.1)) (omega arith) i.2),
     )
 
 pub returns : goal.returns
 returns c =
     let at = c.args in
-    let l = c.loop-x in (
-      l.invariant.0,
-      λ J good begins h.
+    let l = c.loop-x in record {
+      passed = l.invariant.0;
+      at = λ J good begins h.
           let i = l.invariant.1 J good begins h in
-          at_still J at.n i.0 l.x.passed l.x.place l.x.next at.t good (omega (arith, i.1)) i.2 i.1 (omega arith),
-    )
+          at_still J at.n i.0 l.x.passed l.x.place l.x.next at.t good (omega (arith, i.1)) i.2 i.1 (omega arith);
+    }

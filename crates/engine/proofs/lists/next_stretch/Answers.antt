@@ -6,5 +6,7 @@ use Rattle.engine.proofs.lists.next_stretch.Goals as goal
 pub returns : goal.returns
 returns c =
     let at = c.args in
-    let x = at.cursor in
-    (refl, λ J t good begins h hx a. at_next J at.list.now at.n t x.passed x.place x.next _ _ good begins h hx a c.entry.ensures c.next_size.ensures.1)
+    let x = at.cursor in record {
+      passed = refl;
+      at = λ J t good begins h hx a. at_next J at.list.now at.n t x.passed x.place x.next _ _ good begins h hx a c.entry.ensures c.next_size.ensures.1;
+    }

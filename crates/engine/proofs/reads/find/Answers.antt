@@ -7,7 +7,7 @@ use Rattle.engine.proofs.reads.find.Goals as goal
 
 pub load-requires : goal.load-requires
 load-requires c =
-    let start = c.before in
+    let start = c in
     let areas = start.requires.areas in
     record {
       within = omega (arith, c.place_of-j.ensures, place_in start.args.blocks.now start.args.key, areas.places);
@@ -18,6 +18,6 @@ load-requires c =
     }
 
 pub returns : goal.returns
-returns c =
-    let start = c.before in
+returns c rs held =
+    let start = c in
     found_at _ _ rs _ _ start.requires.keyed held _ _ c.place_of-j.ensures c.load.ensures

@@ -1,21 +1,21 @@
 -- `engine::reads::move_block` meets its contract: its steps together are one read more, by the laws of `ReadLaws`. Assumes nothing.
--- a read whose block is in no card and is put in none
 use native.Mathlib.Omega.{arith}
 use Rattle.card.proofs.StretchBounds.{places_fall}
 use Rattle.engine.proofs.reads.ReadLaws.{lost_within, held_moved, summed_moved, held_still, summed_still}
 use Rattle.engine.proofs.reads.move_block.Goals as goal
 
+-- a read whose block is in no card and is put in none
 pub returns-then-is_bypass : goal.returns-then-is_bypass
 returns-then-is_bypass c =
     let pre = c.requires in
-    let past = c.is_bypass.ensures.0 c.if-is_bypass.true in (
-      (λ rs r ek ep held. held_still _ _ _ _ _ _ _ pre.keyed rs held (pre.found rs held) r ek ep past.1 past.0 pre.areas.places),
-      λ rs r ek ep held covered. summed_still _ _ _ _ _ _ _ pre.keyed rs held (pre.found rs held) r ek ep past.1 past.0 _ covered,
-    )
+    let past = c.is_bypass.ensures.0 c.if-is_bypass.true in record {
+      held = (λ rs r ek ep held. held_still _ _ _ _ _ _ _ pre.keyed rs held (pre.found rs held) r ek ep past.1 past.0 pre.areas.places);
+      summed = λ rs r ek ep held covered. summed_still _ _ _ _ _ _ _ pre.keyed rs held (pre.found rs held) r ek ep past.1 past.0 _ covered;
+    }
 
 pub renew_all-changes-requires : goal.renew_all-changes-requires
 renew_all-changes-requires c =
-    let start = c.before in
+    let start = c in
     let pre = start.requires in
     let areas = pre.areas in
     let rs = pre.underway.rs in
@@ -37,12 +37,12 @@ summed-requires c =
     let pre = c.requires in
     let so = pre.underway in
     let renewed = c.renew_all-changes in
-    (lost_within _ _ _ _ _ _ _ pre.keyed so.rs so.held (pre.found so.rs so.held) _ renewed.result so.covered renewed.ensures.1.0, omega (arith, renewed.ensures.1.1.1, so.covered.low))
+    (lost_within _ _ _ _ _ _ _ pre.keyed so.rs so.held (pre.found so.rs so.held) _ renewed.result so.covered renewed.ensures.changes, omega (arith, renewed.ensures.small, so.covered.low))
 
 pub returns : goal.returns
 returns c =
     let pre = c.requires in
-    let renewed = c.renew_all-changes.ensures in (
-      (λ rs r ek ep held. held_moved _ _ _ _ _ _ _ pre.keyed rs held (pre.found rs held) r ek ep _ _ pre.somewhere c.move_from.ensures renewed.0),
-      λ rs r ek ep held covered. summed_moved _ _ _ _ _ _ _ pre.keyed rs held (pre.found rs held) r ek ep _ _ _ renewed.1.0 renewed.1.1.0 c.summed.ensures covered,
-    )
+    let renewed = c.renew_all-changes.ensures in record {
+      held = (λ rs r ek ep held. held_moved _ _ _ _ _ _ _ pre.keyed rs held (pre.found rs held) r ek ep _ _ pre.somewhere c.move_from.ensures renewed.rows);
+      summed = λ rs r ek ep held covered. summed_moved _ _ _ _ _ _ _ pre.keyed rs held (pre.found rs held) r ek ep _ _ _ renewed.changes renewed.longest c.summed.ensures covered;
+    }

@@ -8,7 +8,7 @@ use Rattle.engine.proofs.reads.read.Goals as goal
 
 pub find-j-requires : goal.find-j-requires
 find-j-requires c =
-    let start = c.before.before.before.before.before.before.before.before{-?-} in
+    let start = c.before.before.before.before.before.before.before.befor{-?-}e in
     record {
       areas = start.requires.areas;
       keyed = start.requires.keyed;
@@ -18,12 +18,12 @@ find-j-requires c =
 
 pub move_block-after-requires : goal.move_block-after-requires
 move_block-after-requires c =
-    let start = c.before.before.before.before.before.before.before.before.before.before.before.before.before.before{-?-} in
+    let start = c.before.before.before.before.before.before.before.before.before.before.before.before.before.befor{-?-}e in
     let find = c.find-j in
     record {
       areas = start.requires.areas;
       keyed = start.requires.keyed;
-      somewhere = omega (arith, c.at_least_one.ensures);
+      somewhere = omega (arith, c.at_least_one-p.ensures);
       list_wide = omega (arith, find.auto, list_room_lem start.args.n start.requires.areas.within);
       found = find.ensures;
       scratch_wide = start.requires.scratch_wide;
@@ -32,17 +32,13 @@ move_block-after-requires c =
 
 pub returns : goal.returns
 returns c =
-    let start = c.before.before.before.before.before.before.before.before.before.before.before.before.before.before.before.before.before.before.before.before.before.before.before.before.before.before{-?-} in
-    let one = c.at_least_one.ensures in
+    let start = c.before.before.before.before.before.before.before.before.before.before.before.before.before.before.before.before.before.before.before.before.before.before.before.before.before.befor{-?-}e in
+    let one = c.at_least_one-p.ensures in
     let found = c.find-j.ensures in
     let tallied = c.tally_list.ensures in
-    let moved = c.move_block-after.ensures in (
-      (λ rs r ek ew held. moved.0 rs r ek (ew ∙ sym one) held),
-      (
-        (λ rs held. tallied_found _ _ _ _ _ rs _ _ _ start.requires.keyed (found rs held) tallied.0 one),
-        (
-          (λ rs r ek ew held covered. moved.1 rs r ek (ew ∙ sym one) held covered),
-          tallied.1,
-        ),
-      ),
-    )
+    let moved = c.move_block-after.ensures in record {
+      held = (λ rs r ek ew held. moved.held rs r ek (ew ∙ sym one) held);
+      tallied = (λ rs held. tallied_found _ _ _ _ _ rs _ _ _ start.requires.keyed (found rs held) tallied.tallied one);
+      summed = (λ rs r ek ew held covered. moved.summed rs r ek (ew ∙ sym one) held covered);
+      small = tallied.small;
+    }

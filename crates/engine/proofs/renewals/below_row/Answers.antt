@@ -23,7 +23,7 @@ pub offset_bounds-area-at : goal.offset_bounds-area-at
 offset_bounds-area-at c = omega (arith, rows c)
 
 pub bounds-area-at : goal.bounds-area-at
-bounds-area-at c = omega (arith, rows c.before)
+bounds-area-at c = omega (arith, rows c)
 
 pub returns-then-is_below : goal.returns-then-is_below
 returns-then-is_below c =
@@ -32,12 +32,12 @@ returns-then-is_below c =
     let below = c.requires.1 in
     let n = at.read.n in
     let k = at.k in
-    let row = c.row_at-row in (
-      (omega arith, omega arith),
-      λ J L f source was.
+    let row = c.row_at-row in record {
+      grown = (omega arith, omega arith);
+      renews = λ J L f source was.
           let held : Row at.area.now row.result (pairs (L k) n) = rw row.ensures was in
           let good = f.family.good k in
-          let first = row_first at.area.now row.result n (L k) (omega (arith, (rows c.before).source_room)) held in
+          let first = row_first at.area.now row.result n (L k) (omega (arith, (rows c).source_room)) held in
           let fb = first_bound J n n f.falling (omega arith) (omega (arith, f.there, below.present)) in
           let same : (m : ℕ) → m ≤ n → other_after J at.read.p (L k) m ≡ L k m = ⊎_elim
           (λ there. ⊎_elim
@@ -46,21 +46,21 @@ returns-then-is_below c =
           (c.is_below.ensures c.if-is_below.true))
           (λ z m hm. after_none J at.read.p (L k) fits.read_at z m ∙ sym (z m))
           (f.family.last k) in
-          still_row (way c.before) J L at.changes at.area.now same was,
-    )
+          still_row (way c) J L at.changes at.area.now same was;
+    }
 
 pub merge_row-more-requires : goal.merge_row-more-requires
-merge_row-more-requires c = let ready = c.requires.0 in merge_ready (way c.before) _ _ ready.fits ready.spare
+merge_row-more-requires c = let ready = c.requires.0 in merge_ready (way c) _ _ ready.fits ready.spare
 
 pub with-requires : goal.with-requires
-with-requires c = let me = c.merge_row-more in merged_small (way c.before) c.requires.0.fits c.args.changes me.result me.ensures.0.0 me.ensures.0.1 c.requires.0.small
+with-requires c = let me = c.merge_row-more in merged_small (way c) c.requires.0.fits c.args.changes me.result me.ensures.kept.0 me.ensures.kept.1 c.requires.0.small
 
 pub returns : goal.returns
 returns c =
     let at = c.args in
     let fits = c.requires.0.fits in
     let me = c.merge_row-more in
-    let w = way c.before in (
-      merged_grown w fits at.changes me.result me.ensures.0.0 me.ensures.0.1 c.with.result c.with.ensures,
-      renews_merged at.list.now w at.changes at.area.now fits _ me.new.0 refl me.result c.with.result me.ensures.0.2 me.ensures.1 c.with.ensures,
-    )
+    let w = way c in record {
+      grown = merged_grown w fits at.changes me.result me.ensures.kept.0 me.ensures.kept.1 c.with.result c.with.ensures;
+      renews = renews_merged at.list.now w at.changes at.area.now fits _ me.new.area refl me.result c.with.result me.ensures.kept.2 me.ensures.merged c.with.ensures;
+    }

@@ -12,46 +12,48 @@ way : (c : goal.After-row_at-to) → Way c.args.read (c.args.k - 1) c.args.k c.r
 way c = let pre = c.requires in way_down _ _ c.row_at-from.ensures c.row_at-to.ensures pre.0.fits.read_at pre.1 pre.2 pre.3
 
 pub move_nothing-requires : goal.move_nothing-requires
-move_nothing-requires c = both_rows (way c.before) _ c.requires.0.fits
+move_nothing-requires c = both_rows (way c) _ c.requires.0.fits
 
 pub returns-then-move_nothing : goal.returns-then-move_nothing
 returns-then-move_nothing c =
     let at = c.args in
-    let mo = c.move_nothing in
-    ((omega arith, omega arith), renews_none at.list.now (way c.before) at.changes at.area.now c.requires.0.fits mo.new.0 mo.ensures.0.0 (mo.ensures.1 c.if-move_nothing.true))
+    let mo = c.move_nothing in record {
+      grown = (omega arith, omega arith);
+      renews = renews_none at.list.now (way c) at.changes at.area.now c.requires.0.fits mo.new.area mo.ensures.kept.0 (mo.ensures.moved c.if-move_nothing.true);
+    }
 
 pub lower_pair-requires : goal.lower_pair-requires
 lower_pair-requires c =
     let pre = c.requires in
-    (both_rows (way c.before) _ (fits_kept c.move_nothing.auto.0 pre.0.fits), omega (arith, pre.0.fits.read_at), omega (arith, pre.0.fits.narrow))
+    (both_rows (way c) _ (fits_kept c.move_nothing.auto.area pre.0.fits), omega (arith, pre.0.fits.read_at), omega (arith, pre.0.fits.narrow))
 
 pub returns-then-lower_pair : goal.returns-then-lower_pair
 returns-then-lower_pair c =
     let at = c.args in
     let pre = c.requires in
     let fits = pre.0.fits in
-    let no = c.move_nothing.ensures.0.1 c.if-move_nothing.false in
-    let pa = c.lower_pair in (
-      (omega arith, omega arith),
-      renews_block at.list.now (way c.before) at.changes at.area.now fits _ pa.new.0 no.0 no.1 pa.ensures.0.0
-          (λ J L f there. pa.ensures.1 c.if-lower_pair.true at.read.n at.read.p at.read.j J (L (at.k - 1)) (L at.k) fits.read_at (omega arith) (omega (arith, fits.read_at)) f.falling (f.family.good (at.k - 1)) there f.there (⊎_elim (λ z. inl z) (λ z. inr (omega (arith, fits.read_at))) pre.3)),
-    )
+    let no = c.move_nothing.ensures.kept.1 c.if-move_nothing.false in
+    let pa = c.lower_pair in record {
+      grown = (omega arith, omega arith);
+      renews = renews_block at.list.now (way c) at.changes at.area.now fits _ pa.new.area no.0 no.1 pa.ensures.kept.0
+          (λ J L f there. pa.ensures.moved c.if-lower_pair.true at.read.n at.read.p at.read.j J (L (at.k - 1)) (L at.k) fits.read_at (omega arith) (omega (arith, fits.read_at)) f.falling (f.family.good (at.k - 1)) there f.there (⊎_elim (λ z. inl z) (λ z. inr (omega (arith, fits.read_at))) pre.3));
+    }
 
 pub merge_row-more-requires : goal.merge_row-more-requires
 merge_row-more-requires c =
     let ready = c.requires.0 in
-    merge_ready (way c.before) _ _ (fits_kept (c.lower_pair.auto.0 ∙ c.move_nothing.auto.0) ready.fits) ready.spare
+    merge_ready (way c) _ _ (fits_kept (c.lower_pair.auto.area ∙ c.move_nothing.auto.area) ready.fits) ready.spare
 
 pub with-requires : goal.with-requires
-with-requires c = let me = c.merge_row-more in merged_small (way c.before) c.requires.0.fits c.args.changes me.result me.ensures.0.0 me.ensures.0.1 c.requires.0.small
+with-requires c = let me = c.merge_row-more in merged_small (way c) c.requires.0.fits c.args.changes me.result me.ensures.kept.0 me.ensures.kept.1 c.requires.0.small
 
 pub returns : goal.returns
 returns c =
     let at = c.args in
     let fits = c.requires.0.fits in
-    let w = way c.before in
-    let same = c.lower_pair.ensures.0.1 c.if-lower_pair.false ∙ (c.move_nothing.ensures.0.1 c.if-move_nothing.false).0 in
-    let me = c.merge_row-more in (
-      merged_grown w fits at.changes me.result me.ensures.0.0 me.ensures.0.1 c.with.result c.with.ensures,
-      renews_merged at.list.now w at.changes at.area.now fits _ me.new.0 same me.result c.with.result me.ensures.0.2 me.ensures.1 c.with.ensures,
-    )
+    let w = way c in
+    let same = c.lower_pair.ensures.kept.1 c.if-lower_pair.false ∙ (c.move_nothing.ensures.kept.1 c.if-move_nothing.false).0 in
+    let me = c.merge_row-more in record {
+      grown = merged_grown w fits at.changes me.result me.ensures.kept.0 me.ensures.kept.1 c.with.result c.with.ensures;
+      renews = renews_merged at.list.now w at.changes at.area.now fits _ me.new.area same me.result c.with.result me.ensures.kept.2 me.ensures.merged c.with.ensures;
+    }

@@ -5,10 +5,10 @@ use borrow.Author.Tests.{ltb-true}
 use Rattle.engine.proofs.renewals.is_below.Goals as goal
 
 pub returns-then-first-eq0 : goal.returns-then-first-eq0
-returns-then-first-eq0 c = inl c.if-first-eq0.true
+returns-then-first-eq0 c t = inl c.if-first-eq0.true
 
 pub returns-then-first-start : goal.returns-then-first-start
-returns-then-first-start c = inl cc
+returns-then-first-start c t = inl cc
 
 pub returns : goal.returns
-returns c = inr (omega arith, ltb-true _ _ t)
+returns c t = inr (omega arith, ltb-true _ _ t)

@@ -20,12 +20,12 @@ returns-then-read c =
     let cl = rw c.row_at.ensures at c.close.ensures in
     let past : n < at.read.p = c.if-read.true in
     let j : 0 < at.read.j = ⊎_elim (λ z. absurd (omega arith)) (λ z. z) pre.1 in
-    let e : min at.read.p n ≡ n = omega arith in (
-      (omega arith, omega arith),
-      λ J L fam was.
+    let e : min at.read.p n ≡ n = omega arith in record {
+      grown = (omega arith, omega arith);
+      renewed = λ J L fam was.
           let old = rw e at was in
-          rw e (emptied_row at.read J L at.changes at.area.now _ pre.0 past j pre.2 fam cl.0.0 (λ q. cl.1 (L n) n old.fits (λ x _. old.same x) q (omega arith))),
-    )
+          rw e (emptied_row at.read J L at.changes at.area.now _ pre.0 past j pre.2 fam cl.0.0 (λ q. cl.1 (L n) n old.fits (λ x _. old.same x) q (omega arith)));
+    }
 
 pub write_row-requires : goal.write_row-requires
 write_row-requires c = let room = row_room_lem _ _ _ c.requires.0 c.requires.0.read_at (omega (arith, c.if-read.false)) in rw c.row_at-2.ensures (room.0, room.1)
@@ -38,9 +38,9 @@ returns c =
     let wr = rw c.row_at-2.ensures at c.write_row.ensures in
     let wi = c.with.ensures in
     let le : p ≤ at.read.n = omega (arith, c.if-read.false) in
-    let e : min p at.read.n ≡ p = omega arith in (
-      (omega (arith, wi.0), omega (arith, wi.1)),
-      λ J L fam was. rw e (own_row at.read J L at.changes c.with.result at.area.now _ pre.0.read_at le wr.0
+    let e : min p at.read.n ≡ p = omega arith in record {
+      grown = (omega (arith, wi.0), omega (arith, wi.1));
+      renewed = λ J L fam was. rw e (own_row at.read J L at.changes c.with.result at.area.now _ pre.0.read_at le wr.0
           (wr.1 (own p) (L p) at.read.n (pairs_own p at.read.n pre.0.read_at le) (rw e at was))
-          _ refl refl refl wi),
-    )
+          _ refl refl refl wi);
+    }

@@ -20,17 +20,19 @@ apart c =
     (rows_follow at.read.n at.k (at.k + 1) (way c).to_low (omega arith), rooms_fall at.read.n at.k (at.k + 1) (omega arith))
 
 pub move_nothing-requires : goal.move_nothing-requires
-move_nothing-requires c = both_rows (way c.before) _ c.requires.0.fits
+move_nothing-requires c = both_rows (way c) _ c.requires.0.fits
 
 pub returns-then-move_nothing : goal.returns-then-move_nothing
 returns-then-move_nothing c =
     let at = c.args in
-    let mo = c.move_nothing in
-    ((omega arith, omega arith), renews_none at.list.now (way c.before) at.changes at.area.now c.requires.0.fits mo.new.0 mo.ensures.0.0 (mo.ensures.1 c.if-move_nothing.true))
+    let mo = c.move_nothing in record {
+      grown = (omega arith, omega arith);
+      renews = renews_none at.list.now (way c) at.changes at.area.now c.requires.0.fits mo.new.area mo.ensures.kept.0 (mo.ensures.moved c.if-move_nothing.true);
+    }
 
 pub raise_list-requires : goal.raise_list-requires
 raise_list-requires c =
-    (both_rows (way c.before) _ (fits_kept c.move_nothing.auto.0 c.requires.0.fits), (apart c.before).0, (apart c.before).1)
+    (both_rows (way c) _ (fits_kept c.move_nothing.auto.area c.requires.0.fits), (apart c).0, (apart c).1)
 
 pub returns-then-raise_list : goal.returns-then-raise_list
 returns-then-raise_list c =
@@ -39,30 +41,30 @@ returns-then-raise_list c =
     let fits = pre.0.fits in
     let present = pre.1.present in
     let n = at.read.n in
-    let no = c.move_nothing.ensures.0.1 c.if-move_nothing.false in
-    let pa = c.raise_list in (
-      (omega arith, omega arith),
-      renews_block at.list.now (way c.before) at.changes at.area.now fits _ pa.new.0 no.0 no.1 pa.ensures.0.0
+    let no = c.move_nothing.ensures.kept.1 c.if-move_nothing.false in
+    let pa = c.raise_list in record {
+      grown = (omega arith, omega arith);
+      renews = renews_block at.list.now (way c) at.changes at.area.now fits _ pa.new.area no.0 no.1 pa.ensures.kept.0
           (λ J L f there.
           let some = (first_bound J n n f.falling (omega arith) (omega (arith, f.there, present))).4 in
-          pa.ensures.1 c.if-raise_list.true n at.read.j J (L (at.k + 1)) (L at.k) fits.read_at f.falling (f.family.good (at.k + 1)) there f.there present (f.begins 0 (omega arith)) (f.begins 1 (omega (arith, some)))),
-    )
+          pa.ensures.moved c.if-raise_list.true n at.read.j J (L (at.k + 1)) (L at.k) fits.read_at f.falling (f.family.good (at.k + 1)) there f.there present (f.begins 0 (omega arith)) (f.begins 1 (omega (arith, some))));
+    }
 
 pub merge_row-more-requires : goal.merge_row-more-requires
 merge_row-more-requires c =
     let ready = c.requires.0 in
-    merge_ready (way c.before) _ _ (fits_kept (c.raise_list.auto.0 ∙ c.move_nothing.auto.0) ready.fits) ready.spare
+    merge_ready (way c) _ _ (fits_kept (c.raise_list.auto.area ∙ c.move_nothing.auto.area) ready.fits) ready.spare
 
 pub with-requires : goal.with-requires
-with-requires c = let me = c.merge_row-more in merged_small (way c.before) c.requires.0.fits c.args.changes me.result me.ensures.0.0 me.ensures.0.1 c.requires.0.small
+with-requires c = let me = c.merge_row-more in merged_small (way c) c.requires.0.fits c.args.changes me.result me.ensures.kept.0 me.ensures.kept.1 c.requires.0.small
 
 pub returns : goal.returns
 returns c =
     let at = c.args in
     let fits = c.requires.0.fits in
-    let w = way c.before in
-    let same = c.raise_list.ensures.0.1 c.if-raise_list.false ∙ (c.move_nothing.ensures.0.1 c.if-move_nothing.false).0 in
-    let me = c.merge_row-more in (
-      merged_grown w fits at.changes me.result me.ensures.0.0 me.ensures.0.1 c.with.result c.with.ensures,
-      renews_merged at.list.now w at.changes at.area.now fits _ me.new.0 same me.result c.with.result me.ensures.0.2 me.ensures.1 c.with.ensures,
-    )
+    let w = way c in
+    let same = c.raise_list.ensures.kept.1 c.if-raise_list.false ∙ (c.move_nothing.ensures.kept.1 c.if-move_nothing.false).0 in
+    let me = c.merge_row-more in record {
+      grown = merged_grown w fits at.changes me.result me.ensures.kept.0 me.ensures.kept.1 c.with.result c.with.ensures;
+      renews = renews_merged at.list.now w at.changes at.area.now fits _ me.new.area same me.result c.with.result me.ensures.kept.2 me.ensures.merged c.with.ensures;
+    }

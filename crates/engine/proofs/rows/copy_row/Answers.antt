@@ -11,7 +11,8 @@ returns c =
     let pre = c.requires in
     let copy = c.copy_list.ensures in
     let row = at.row in
-    let ek : row.start + row.room - row.start ≡ row.room = omega arith in (
-      omega (arith, copy.0, mid_length at.area.now row _ pre.0 ek),
-      ((λ R n held. copy.1.0 R n (mid_holds at.area.now row _ pre.0 ek R n held)), copy.1.1),
-    )
+    let ek : row.start + row.room - row.start ≡ row.room = omega arith in record {
+      range = omega (arith, copy.range, mid_length at.area.now row _ pre.0 ek);
+      begins = (λ R n held. copy.begins R n (mid_holds at.area.now row _ pre.0 ek R n held));
+      beyond = copy.beyond;
+    }

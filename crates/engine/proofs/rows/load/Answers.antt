@@ -10,7 +10,7 @@ use Rattle.engine.proofs.rows.RowLayout.{row_inside, room_most}
 use Rattle.engine.proofs.rows.load.Goals as goal
 
 pub returns-then-j-eq0 : goal.returns-then-j-eq0
-returns-then-j-eq0 c =
+returns-then-j-eq0 c L fall none some q =
     c.requires.blank q ∙ sym (get_or-eq_default (pairs L c.args.n) 0 {n = q} (omega (arith, length_pairs L c.args.n, stretches_none L fall c.args.n (none c.if-j-eq0.true))))
 
 pub copy_row-requires : goal.copy_row-requires
@@ -21,11 +21,11 @@ copy_row-requires c =
     (omega (arith, row_inside at.n at.j (omega (arith, c.if-j-eq0.false)) pre.within, pre.room), omega (arith, room_most at.n at.j, pre.wide))
 
 pub returns : goal.returns
-returns c =
+returns c L fall none some q =
     let at = c.args in
     let copy = c.copy_row.ensures in
     let row = c.row_of.ensures at.n c.row_length.ensures in
-    let e = copy.1.0 L at.n (rw row (some (omega (arith, c.if-j-eq0.false)))) in
+    let e = copy.begins L at.n (rw row (some (omega (arith, c.if-j-eq0.false)))) in
     by_lt (length (pairs L at.n)) q
-    (λ lt. copy.1.1 q (omega (arith, e.0)) ∙ c.requires.blank q ∙ sym (get_or-eq_default (pairs L at.n) 0 {n = q} (omega arith)))
+    (λ lt. copy.beyond q (omega (arith, e.0)) ∙ c.requires.blank q ∙ sym (get_or-eq_default (pairs L at.n) 0 {n = q} (omega arith)))
     (λ le. e.1 q le)

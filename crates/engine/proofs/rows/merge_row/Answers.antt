@@ -9,10 +9,10 @@ pub returns : goal.returns
 returns c =
     let at = c.before.before.before.before.before.before.before.before.before.before.before.before.before.args{-?-} in
     let renew = c.renew-new.ensures in
-    let copy = c.copy-row.ensures in (
-      (omega (arith, renew.0.0), omega (arith, copy.0), renew.0.1),
-      λ J S T gj gs listed src old fits.
-          let was = copy.1.0 S at.n src in
-          let new = renew.1 J S T gj gs listed was.1 old fits in
-          (new.1, stretches_entries (other_after J at.p S) at.n _ new.0, stretches_entries S at.n _ was.0, refl),
-    )
+    let copy = c.copy_row-old.ensures in record {
+      kept = (omega (arith, renew.kept.0), omega (arith, copy.range), renew.kept.1);
+      merged = λ J S T gj gs listed src old fits.
+          let was = copy.begins S at.n src in
+          let new = renew.holds J S T gj gs listed was.1 old fits in
+          (new.1, stretches_entries (other_after J at.p S) at.n _ new.0, stretches_entries S at.n _ was.0, refl);
+    }

@@ -11,4 +11,4 @@ overflow_mul-result c =
     omega (arith, mul-le-mul low c.requires.2)
 
 pub returns : goal.returns
-returns c = row_is n c.args.k c.args.longest e
+returns c n e = row_is n c.args.k c.args.longest e

@@ -35,10 +35,10 @@ shape_of-area-then-place-eq0 c = c.loop-h.invariant.kept.size
 pub returns-then-place-eq0 : goal.returns-then-place-eq0
 returns-then-place-eq0 c =
     let l = c.loop-h in
-    let at = c.args in (
-      (l.invariant.inside, l.invariant.kept),
-      raising_all at.area.now l.area at.from at.to l.h l.invariant (λ h. sym (l.invariant.kept.above _ (omega (arith, l.invariant.inside, c.requires.1))) ∙ c.if-place-eq0.true),
-    )
+    let at = c.args in record {
+      kept = (l.invariant.inside, l.invariant.kept);
+      raised = raising_all at.area.now l.area at.from at.to l.h l.invariant (λ h. sym (l.invariant.kept.above _ (omega (arith, l.invariant.inside, c.requires.1))) ∙ c.if-place-eq0.true);
+    }
 
 pub overflow_add-area : goal.overflow_add-area
 overflow_add-area c = omega (arith, c.loop-h.invariant.inside)
@@ -94,7 +94,7 @@ shape_of-area c = c.loop-h.invariant.kept.size
 pub returns : goal.returns
 returns c =
     let l = c.loop-h in
-    let at = c.args in (
-      (l.invariant.inside, l.invariant.kept),
-      raising_all at.area.now l.area at.from at.to l.h l.invariant (λ h. absurd (omega arith)),
-    )
+    let at = c.args in record {
+      kept = (l.invariant.inside, l.invariant.kept);
+      raised = raising_all at.area.now l.area at.from at.to l.h l.invariant (λ h. absurd (omega arith));
+    }

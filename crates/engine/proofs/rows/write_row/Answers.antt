@@ -13,7 +13,7 @@ returns c =
     let me = c.write_pair in
     let row = at.row in
     let ek : row.start + row.room - row.start ≡ row.room = omega arith in
-    let len : length me.new.0 ≡ row.room = me.auto.0 ∙ mid_length at.area.now row _ pre.1 ek in (
-      put_kept at.area.now row _ pre.1 ek me.new.0 len,
-      λ R T n er held. put_row at.area.now row _ pre.1 ek me.new.0 len R n (omega (arith, ap length er, pre.0)) (me.ensures R n er (mid_list at.area.now row _ pre.1 ek T n held)),
-    )
+    let len : length me.new.out ≡ row.room = me.auto.out ∙ mid_length at.area.now row _ pre.1 ek in record {
+      kept = put_kept at.area.now row _ pre.1 ek me.new.out len;
+      holds = λ R T n er held. put_row at.area.now row _ pre.1 ek me.new.out len R n (omega (arith, ap length er, pre.0)) (me.ensures R n er (mid_list at.area.now row _ pre.1 ek T n held));
+    }

@@ -12,10 +12,17 @@ pub overflow_cast-list : goal.overflow_cast-list
 overflow_cast-list c = omega (arith, c.shared_slice_known-1.given (2 * c.loop-i.i + 1))
 
 pub returns-then-list-i : goal.returns-then-list-i
-returns-then-list-i c = (omega (arith, c.if-list-i.true), λ J n fall holds old. c.loop-i.invariant J n fall holds old)
+returns-then-list-i c =
+    record {
+      place = omega (arith, c.if-list-i.true);
+      passed = λ J n fall holds old. c.loop-i.invariant J n fall holds old;
+    }
 
 pub loop-i-preserved : goal.loop-i-preserved
 loop-i-preserved c = let l = c.loop-i in let a = c.args in λ J n fall holds old. passed_more a.list.now J n a.most l.i fall holds (omega (arith, c.if-list-i.false)) (l.invariant J n fall holds old)
 
 pub returns : goal.returns
-returns c = let i = c.loop-i.i in let list = c.args.list.now in let z = get_or-eq_default list 0 {n = 2 * i + 1} (omega arith) in (omega arith, λ J n fall holds old. c.loop-i.invariant J n fall holds old)
+returns c =  let i = c.loop-i.i in let list = c.args.list.now in let z = get_or-eq_default list 0 {n = 2 * i + 1} (omega arith) in record {
+      place = omega arith;
+      passed = λ J n fall holds old. c.loop-i.invariant J n fall holds old;
+    }

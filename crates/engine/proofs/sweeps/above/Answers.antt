@@ -17,7 +17,7 @@ loop-k-preserved c =
     let pre = c.requires in
     let lp = c.loop-k in
     let row = c.above_row-sum in
-    rising_next lp.invariant lp.k _ _ _ pre.0.fits.read_at (omega (arith, lp.invariant.from)) (omega (arith, pre.1.within)) (omega arith) (omega arith) (omega (arith, pre.1.within)) (record { room = row.auto.0; spare = row.auto.1.1.0; grown = row.ensures.0 }) row.ensures.1
+    rising_next lp.invariant lp.k _ _ _ pre.0.fits.read_at (omega (arith, lp.invariant.from)) (omega (arith, pre.1.within)) (omega arith) (omega arith) (omega (arith, pre.1.within)) (record { room = row.auto.area; spare = row.auto.scratch.1.0; grown = row.ensures.grown }) row.ensures.renews
 
 pub shape_of-area : goal.shape_of-area
 shape_of-area c = c.loop-k.invariant.turned.room
@@ -26,4 +26,7 @@ pub shape_of-scratch : goal.shape_of-scratch
 shape_of-scratch c = c.loop-k.invariant.turned.spare
 
 pub returns : goal.returns
-returns c = let pre = c.requires in rising_all c.loop-k.invariant pre.1.some (omega (arith, pre.0.fits.narrow, pre.1.within)) (omega arith)
+returns c = let pre = c.requires in record {
+      grown = (rising_all c.loop-k.invariant pre.1.some (omega (arith, pre.0.fits.narrow, pre.1.within)) (omega arith)).0;
+      leads = (rising_all c.loop-k.invariant pre.1.some (omega (arith, pre.0.fits.narrow, pre.1.within)) (omega arith)).1;
+    }

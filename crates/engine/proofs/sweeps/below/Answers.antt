@@ -8,10 +8,10 @@ use Rattle.engine.proofs.sweeps.below.Goals as goal
 pub returns-then-list-read : goal.returns-then-list-read
 returns-then-list-read c =
     let at = c.args in
-    let pre = c.requires in (
-      (omega arith, omega arith),
-      λ a h left J L finds half. halfway_still at.read left J L at.list.now finds pre.0.fits.read_at pre.1.present c.if-list-read.true a at.bottom _ _ h pre.1.reached pre.1.within pre.1.side half,
-    )
+    let pre = c.requires in record {
+      grown = (omega arith, omega arith);
+      leads = λ a h left J L finds half. halfway_still at.read left J L at.list.now finds pre.0.fits.read_at pre.1.present c.if-list-read.true a at.bottom _ _ h pre.1.reached pre.1.within pre.1.side half;
+    }
 
 pub loop-k-init : goal.loop-k-init
 loop-k-init c = sinking_none _ _ _ _ _ _ _ _ c.requires.1.within
@@ -38,4 +38,8 @@ pub shape_of-scratch : goal.shape_of-scratch
 shape_of-scratch c = c.loop-k.invariant.turned.spare
 
 pub returns : goal.returns
-returns c = sinking_all c.loop-k.invariant (omega (arith, c.requires.0.fits.narrow)) (omega arith)
+returns c = 
+    record {
+      grown = (sinking_all c.loop-k.invariant (omega (arith, c.requires.0.fits.narrow)) (omega arith)).0;
+      leads = (sinking_all c.loop-k.invariant (omega (arith, c.requires.0.fits.narrow)) (omega arith)).1;
+    }

@@ -19,7 +19,7 @@ loop-k-preserved c =
     let pre = c.requires in
     let lp = c.loop-k in
     let row = c.down_row-sum in
-    sinking_next lp.invariant (lp.k - 1) _ _ _ pre.0.fits.read_at (omega (arith, lp.invariant.from)) (omega arith) (omega (arith, pre.0.fits.read_at)) (omega arith) (record { room = row.auto.0; spare = row.auto.1.1.0; grown = row.ensures.0 }) row.ensures.1
+    sinking_next lp.invariant (lp.k - 1) _ _ _ pre.0.fits.read_at (omega (arith, lp.invariant.from)) (omega arith) (omega (arith, pre.0.fits.read_at)) (omega arith) (record { room = row.auto.area; spare = row.auto.scratch.1.0; grown = row.ensures.grown }) row.ensures.renews
 
 pub shape_of-area : goal.shape_of-area
 shape_of-area c = c.loop-k.invariant.turned.room
@@ -29,5 +29,7 @@ shape_of-scratch c = c.loop-k.invariant.turned.spare
 
 pub returns : goal.returns
 returns c =
-    let all = sinking_all c.loop-k.invariant (omega (arith, c.requires.0.fits.narrow)) (omega arith) in
-    (all.0, λ a h. all.1 a (omega arith))
+    let all = sinking_all c.loop-k.invariant (omega (arith, c.requires.0.fits.narrow)) (omega arith) in record {
+      grown = all.0;
+      leads = λ a h. all.1 a (omega arith);
+    }

@@ -1,5 +1,4 @@
 -- What leaves, by whether the block read was present, and where it goes.
--- the row of the block read is no longer than the longest
 use native.Mathlib.Omega.{arith}
 use mathlib.Core.Path.{sym, ◌∙◌}
 use mathlib.Core.Logic.{inl}
@@ -12,6 +11,7 @@ use Rattle.engine.proofs.rows.RowCounts.{left_read, left_bypass, left_none, left
 use Rattle.engine.proofs.renewals.Ways.{row_room_lem}
 use Rattle.engine.proofs.sweeps.leaving.Goals as goal
 
+-- the row of the block read is no longer than the longest
 short : (c : goal.After-row_at) → c.row_at.result.room ≤ c.args.read.width
 short c = let read = c.args.read in rw (c.row_at.ensures, c.requires.0.wide) (room_most read.n read.j)
 
@@ -25,41 +25,43 @@ count_entries-requires c = omega (arith, short c, c.requires.2)
 pub returns-then-read-gt0 : goal.returns-then-read-gt0
 returns-then-read-gt0 c =
     let read = c.args.read in
-    let co = c.count_entries.ensures in (
-      omega (arith, co.0, short c.before),
-      λ J L f was.
+    let co = c.count_entries.ensures in record {
+      range = omega (arith, co.range, short c);
+      left = λ J L f was.
           let fits : length (pairs J read.n) ≤ c.row_at.result.room = rw c.row_at.ensures (row_fits read.n J read.j f.falling (inl (sym f.there))) in
-          left_read J L read.n read.p read.j _ (omega (arith, c.if-read-gt0.true)) (co.1 J read.n fits f.begins),
-    )
+          left_read J L read.n read.p read.j _ (omega (arith, c.if-read-gt0.true)) (co.counted J read.n fits f.begins);
+    }
 
 pub returns-then-read : goal.returns-then-read
 returns-then-read c =
-    let read = c.args.read in
-    (omega arith, λ J L f was. left_bypass J L read.n read.p read.j (omega (arith, c.if-read-gt0.false)) c.if-read.true)
+    let read = c.args.read in record {
+      range = omega arith;
+      left = λ J L f was. left_bypass J L read.n read.p read.j (omega (arith, c.if-read-gt0.false)) c.if-read.true;
+    }
 
 pub offset_bounds-area-last : goal.offset_bounds-area-last
 offset_bounds-area-last c = omega (arith, last c)
 
 pub bounds-area-last : goal.bounds-area-last
-bounds-area-last c = omega (arith, last c.before)
+bounds-area-last c = omega (arith, last c)
 
 pub returns-then-area-last-eq0 : goal.returns-then-area-last-eq0
 returns-then-area-last-eq0 c =
     let read = c.args.read in
-    let row = c.row_at-last in (
-      omega arith,
-      λ J L f was.
+    let row = c.row_at-last in record {
+      range = omega arith;
+      left = λ J L f was.
           let held : Row c.args.area.now row.result (pairs (L read.n) read.n) = rw row.ensures was in
-          left_none J L read.n read.p read.j (omega (arith, c.if-read-gt0.false)) (omega (arith, c.if-read.false)) (sym (row_first _ row.result read.n (L read.n) (omega (arith, (last c.before).0)) held) ∙ c.if-area-last-eq0.true),
-    )
+          left_none J L read.n read.p read.j (omega (arith, c.if-read-gt0.false)) (omega (arith, c.if-read.false)) (sym (row_first _ row.result read.n (L read.n) (omega (arith, (last c).0)) held) ∙ c.if-area-last-eq0.true);
+    }
 
 pub returns : goal.returns
 returns c =
     let read = c.args.read in
-    let row = c.row_at-last in (
-      omega (arith, c.requires.0.wide, c.requires.0.some),
-      λ J L f was.
+    let row = c.row_at-last in record {
+      range = omega (arith, c.requires.0.wide, c.requires.0.some);
+      left = λ J L f was.
           let held : Row c.args.area.now row.result (pairs (L read.n) read.n) = rw row.ensures was in
           left_last J L read.n read.p read.j (omega (arith, c.if-read-gt0.false)) (omega (arith, c.if-read.false)) c.requires.0.some f.family
-          (λ z. c.if-area-last-eq0.false (row_first _ row.result read.n (L read.n) (omega (arith, (last c.before).0)) held ∙ z)),
-    )
+          (λ z. c.if-area-last-eq0.false (row_first _ row.result read.n (L read.n) (omega (arith, (last c).0)) held ∙ z));
+    }

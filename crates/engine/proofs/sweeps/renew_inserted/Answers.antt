@@ -13,20 +13,20 @@ pub down-all-requires : goal.down-all-requires
 down-all-requires c =
     let pre = c.requires in
     let upper = c.above-upper in
-    (record { fits = fits_kept upper.auto.0 pre.0.ready.fits; listed = omega (arith, pre.0.ready.listed); spare = omega (arith, pre.0.ready.spare); small = (omega (arith, pre.0.fresh), omega (arith, pre.0.fresh)) }, pre.2, omega arith, inl pre.1)
+    (record { fits = fits_kept upper.auto.area pre.0.ready.fits; listed = omega (arith, pre.0.ready.listed); spare = omega (arith, pre.0.ready.spare); small = (omega (arith, pre.0.fresh), omega (arith, pre.0.fresh)) }, pre.2, omega arith, inl pre.1)
 
 pub own_row-requires : goal.own_row-requires
 own_row-requires c =
     let pre = c.requires in
-    (fits_kept (c.down-all.auto.0 ∙ c.above-upper.auto.0) pre.0.ready.fits, inl pre.2, omega arith, (omega (arith, pre.0.fresh), omega (arith, pre.0.fresh)))
+    (fits_kept (c.down-all.auto.area ∙ c.above-upper.auto.area) pre.0.ready.fits, inl pre.2, omega arith, (omega (arith, pre.0.fresh), omega (arith, pre.0.fresh)))
 
 pub returns : goal.returns
 returns c =
     let at = c.args in
     let pre = c.requires in
     let upper = c.above-upper.ensures in
-    let all = c.down-all.ensures in (
-      leads_all at.list.now at.read at.read.p _ _ _ _ _ _ pre.0.ready.fits.read_at pre.0.ready.fits.some pre.0.fresh (omega (arith, pre.2))
-          (λ left J L finds half. all.1 (at.read.p - 1) (omega (arith, pre.0.ready.fits.read_at)) left J L finds (upper.1 left J L finds half)) c.own_row.ensures.1,
-      omega (arith, pre.0.fresh),
-    )
+    let all = c.down-all.ensures in record {
+      renewed = leads_all at.list.now at.read at.read.p _ _ _ _ _ _ pre.0.ready.fits.read_at pre.0.ready.fits.some pre.0.fresh (omega (arith, pre.2))
+          (λ left J L finds half. all.leads (at.read.p - 1) (omega (arith, pre.0.ready.fits.read_at)) left J L finds (upper.leads left J L finds half)) c.own_row.ensures.renewed;
+      small = omega (arith, pre.0.fresh);
+    }

@@ -14,18 +14,18 @@ pub below-both-requires : goal.below-both-requires
 below-both-requires c =
     let pre = c.requires in
     let low = c.bottom_of-bottom in
-    (record { fits = fits_kept c.above-upper.auto.0 pre.0.ready.fits; listed = omega (arith, pre.0.ready.listed); spare = omega (arith, pre.0.ready.spare); small = (omega (arith, pre.0.fresh), omega (arith, pre.0.fresh)) }, record { present = pre.1; reached = omega (arith, low.ensures); side = by_lt low.result c.args.read.n (λ h. inl (omega (arith, low.ensures))) (λ h. inr h); within = omega (arith, low.ensures) })
+    (record { fits = fits_kept c.above-upper.auto.area pre.0.ready.fits; listed = omega (arith, pre.0.ready.listed); spare = omega (arith, pre.0.ready.spare); small = (omega (arith, pre.0.fresh), omega (arith, pre.0.fresh)) }, record { present = pre.1; reached = omega (arith, low.ensures); side = by_lt low.result c.args.read.n (λ h. inl (omega (arith, low.ensures))) (λ h. inr h); within = omega (arith, low.ensures) })
 
 pub up-all-requires : goal.up-all-requires
 up-all-requires c =
     let pre = c.requires in
     let low = c.bottom_of-bottom.ensures in
-    (record { fits = fits_kept (c.below-both.auto.0 ∙ c.above-upper.auto.0) pre.0.ready.fits; listed = omega (arith, pre.0.ready.listed); spare = omega (arith, pre.0.ready.spare); small = (omega (arith, pre.0.fresh), omega (arith, pre.0.fresh)) }, record { present = pre.1; reach = omega (arith, low); within = omega (arith, low) }, omega (arith, low))
+    (record { fits = fits_kept (c.below-both.auto.area ∙ c.above-upper.auto.area) pre.0.ready.fits; listed = omega (arith, pre.0.ready.listed); spare = omega (arith, pre.0.ready.spare); small = (omega (arith, pre.0.fresh), omega (arith, pre.0.fresh)) }, record { present = pre.1; reach = omega (arith, low); within = omega (arith, low) }, omega (arith, low))
 
 pub own_row-requires : goal.own_row-requires
 own_row-requires c =
     let pre = c.requires in
-    (fits_kept (c.up-all.auto.0 ∙ c.below-both.auto.0 ∙ c.above-upper.auto.0) pre.0.ready.fits, inr pre.1, pre.3, (omega (arith, pre.0.fresh), omega (arith, pre.0.fresh)))
+    (fits_kept (c.up-all.auto.area ∙ c.below-both.auto.area ∙ c.above-upper.auto.area) pre.0.ready.fits, inr pre.1, pre.3, (omega (arith, pre.0.fresh), omega (arith, pre.0.fresh)))
 
 pub returns : goal.returns
 returns c =
@@ -33,8 +33,8 @@ returns c =
     let pre = c.requires in
     let low = c.bottom_of-bottom in
     let upper = c.above-upper.ensures in
-    let both = c.below-both.ensures in (
-      leads_all at.list.now at.read low.result _ _ _ _ _ _ pre.0.ready.fits.read_at pre.0.ready.fits.some pre.0.fresh low.ensures
-          (λ left J L finds half. c.up-all.ensures.1 left J L finds (both.1 (at.read.j - 1) (omega (arith, low.ensures, pre.2, pre.3)) left J L finds (upper.1 left J L finds half))) c.own_row.ensures.1,
-      omega (arith, pre.0.fresh),
-    )
+    let both = c.below-both.ensures in record {
+      renewed = leads_all at.list.now at.read low.result _ _ _ _ _ _ pre.0.ready.fits.read_at pre.0.ready.fits.some pre.0.fresh low.ensures
+          (λ left J L finds half. c.up-all.ensures.leads left J L finds (both.leads (at.read.j - 1) (omega (arith, low.ensures, pre.2, pre.3)) left J L finds (upper.leads left J L finds half))) c.own_row.ensures.renewed;
+      small = omega (arith, pre.0.fresh);
+    }

@@ -12,17 +12,17 @@ above-upper-requires c = let pre = c.requires in (pre.0.ready, record { some = p
 pub below-both-requires : goal.below-both-requires
 below-both-requires c =
     let pre = c.requires in
-    (record { fits = fits_kept c.above-upper.auto.0 pre.0.ready.fits; listed = omega (arith, pre.0.ready.listed); spare = omega (arith, pre.0.ready.spare); small = (omega (arith, pre.0.fresh), omega (arith, pre.0.fresh)) }, record { present = omega (arith, pre.0.ready.fits.read_at); reached = omega arith; side = inl pre.1; within = pre.2 })
+    (record { fits = fits_kept c.above-upper.auto.area pre.0.ready.fits; listed = omega (arith, pre.0.ready.listed); spare = omega (arith, pre.0.ready.spare); small = (omega (arith, pre.0.fresh), omega (arith, pre.0.fresh)) }, record { present = omega (arith, pre.0.ready.fits.read_at); reached = omega arith; side = inl pre.1; within = pre.2 })
 
 pub down-all-requires : goal.down-all-requires
 down-all-requires c =
     let pre = c.requires in
-    (record { fits = fits_kept (c.below-both.auto.0 ∙ c.above-upper.auto.0) pre.0.ready.fits; listed = omega (arith, pre.0.ready.listed); spare = omega (arith, pre.0.ready.spare); small = (omega (arith, pre.0.fresh), omega (arith, pre.0.fresh)) }, pre.1, pre.2, inr (omega arith))
+    (record { fits = fits_kept (c.below-both.auto.area ∙ c.above-upper.auto.area) pre.0.ready.fits; listed = omega (arith, pre.0.ready.listed); spare = omega (arith, pre.0.ready.spare); small = (omega (arith, pre.0.fresh), omega (arith, pre.0.fresh)) }, pre.1, pre.2, inr (omega arith))
 
 pub own_row-requires : goal.own_row-requires
 own_row-requires c =
     let pre = c.requires in
-    (fits_kept (c.down-all.auto.0 ∙ c.below-both.auto.0 ∙ c.above-upper.auto.0) pre.0.ready.fits, inr (omega (arith, pre.0.ready.fits.read_at)), pre.2, (omega (arith, pre.0.fresh), omega (arith, pre.0.fresh)))
+    (fits_kept (c.down-all.auto.area ∙ c.below-both.auto.area ∙ c.above-upper.auto.area) pre.0.ready.fits, inr (omega (arith, pre.0.ready.fits.read_at)), pre.2, (omega (arith, pre.0.fresh), omega (arith, pre.0.fresh)))
 
 pub returns : goal.returns
 returns c =
@@ -30,8 +30,8 @@ returns c =
     let pre = c.requires in
     let upper = c.above-upper.ensures in
     let both = c.below-both.ensures in
-    let all = c.down-all.ensures in (
-      leads_all at.list.now at.read at.read.p _ _ _ _ _ _ pre.0.ready.fits.read_at pre.0.ready.fits.some pre.0.fresh (omega (arith, pre.1, pre.2))
-          (λ left J L finds half. all.1 (at.read.p - 1) (omega (arith, pre.0.ready.fits.read_at)) left J L finds (both.1 (at.read.p - 1) (omega (arith, pre.1)) left J L finds (upper.1 left J L finds half))) c.own_row.ensures.1,
-      omega (arith, pre.0.fresh),
-    )
+    let all = c.down-all.ensures in record {
+      renewed = leads_all at.list.now at.read at.read.p _ _ _ _ _ _ pre.0.ready.fits.read_at pre.0.ready.fits.some pre.0.fresh (omega (arith, pre.1, pre.2))
+          (λ left J L finds half. all.leads (at.read.p - 1) (omega (arith, pre.0.ready.fits.read_at)) left J L finds (both.leads (at.read.p - 1) (omega (arith, pre.1)) left J L finds (upper.leads left J L finds half))) c.own_row.ensures.renewed;
+      small = omega (arith, pre.0.fresh);
+    }

@@ -24,7 +24,7 @@ loop-i-smaller c = omega arith
 pub loop-i-preserved : goal.loop-i-preserved
 loop-i-preserved c =
     let l = c.loop-i in
-    let start = c.before in
+    let start = c in
     left_turn start.args.buffer.now start.args.at start.args.bytes.now l.buffer l.i l.invariant c.loop-i-test.true start.requires
 
 pub shape_of-buffer : goal.shape_of-buffer
@@ -33,5 +33,5 @@ shape_of-buffer c = c.loop-i.invariant.1
 pub returns : goal.returns
 returns c =
     let l = c.loop-i in
-    let start = c.before in
+    let start = c in
     left_none start.args.buffer.now start.args.at start.args.bytes.now l.buffer l.i l.invariant c.loop-i-test.false

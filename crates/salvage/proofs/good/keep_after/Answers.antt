@@ -7,19 +7,19 @@ use Rattle.salvage.proofs.good.keep_after.Goals as goal
 
 pub overflow_add-bytes : goal.overflow_add-bytes
 overflow_add-bytes c =
-    let start = c.before in
+    let start = c in
     omega (arith, good_within start.args.trace.now start.args.start start.requires _ _ c.measure-need.ensures)
 
 pub returns-then-out-bytes : goal.returns-then-out-bytes
 returns-then-out-bytes c =
-    let measured = c.before in
+    let measured = c in
     let start = measured.before.before.before in
     short_told _ _ _ _ _ _ _ c.unwritten.ensures
     (short_out start.args.trace.now start.args.start start.requires _ _ measured.measure.ensures start.args.out.now start.args.room c.if-out-bytes.true)
 
 pub returns-then-room-need : goal.returns-then-room-need
 returns-then-room-need c =
-    let measured = c.before in
+    let measured = c in
     let start = measured.before.before.before in
     short_told _ _ _ _ _ _ _ c.unwritten-then-room-need.ensures
     (short_list start.args.trace.now start.args.start start.requires _ _ measured.measure.ensures start.args.out.now start.args.room c.if-room-need.true)
@@ -29,14 +29,14 @@ slice_bounds-copy_bytes-end c = sym (length-take-le _ _ c.before.before.before.b
 
 pub copy_bytes-requires : goal.copy_bytes-requires
 copy_bytes-requires c =
-    let room = c.before in
+    let room = c in
     let measured = room.before.before in
     let start = measured.before.before.before in
     head_room start.args.trace.now start.args.start start.requires _ _ measured.measure.ensures start.args.out.now start.args.room room.if1.false
 
 pub copy_kept-requires : goal.copy_kept-requires
 copy_kept-requires c =
-    let copied = c.before in
+    let copied = c in
     let room = copied.before.before.before.before.before in
     let measured = room.before.before in
     let start = measured.before.before.before in
@@ -44,7 +44,7 @@ copy_kept-requires c =
 
 pub returns : goal.returns
 returns c =
-    let kept = c.before in
+    let kept = c in
     let copied = kept.before.before.before.before in
     let listed = copied.before.before.before in
     let room = listed.before.before in

@@ -20,13 +20,11 @@ returns-then-trace-gt-LARGEST_INPUT c =
     let large = large_sheet at.trace.now areas c.if-trace-gt-LARGEST_INPUT.true in
     let same = large_areas at.trace.now areas c.if-trace-gt-LARGEST_INPUT.true in
     let line = ap (λ (z : ℕ). refused_line z largest_input) c.refusal_number.ensures ∙ sym large in
-    let text = whole put.0 in (
-      (text.0 ∙ ap length line, text.1 ∙ ap (λ (b : List ℕ). shown b at.text.now) line),
-      (
-        omega (arith, put.1),
-        (ap (λ (a : Areas). a.blocks) (sym same), ap (λ (a : Areas). a.stretches) (sym same), ap (λ (a : Areas). a.counts) (sym same)),
-      ),
-    )
+    let text = whole put.0 in record {
+      text = (text.0 ∙ ap length line, text.1 ∙ ap (λ (b : List ℕ). shown b at.text.now) line);
+      short = omega (arith, put.1);
+      areas = (ap (λ (a : Areas). a.blocks) (sym same), ap (λ (a : Areas). a.stretches) (sym same), ap (λ (a : Areas). a.counts) (sym same));
+    }
 
 pub returns : goal.returns
 returns c =
@@ -34,10 +32,8 @@ returns c =
     let areas = areas_of at.blocks.now at.stretches.now at.counts.now in
     let sheet = c.sheet.ensures in
     let line = sym (small_sheet at.trace.now areas (omega (arith, c.if-trace-gt-LARGEST_INPUT.false))) in
-    let after = sym (small_areas at.trace.now areas (omega (arith, c.if-trace-gt-LARGEST_INPUT.false))) in (
-      (sheet.0.0 ∙ ap length line, sheet.0.1 ∙ ap (λ (b : List ℕ). shown b at.text.now) line),
-      (
-        sheet.1.0,
-        (sheet.1.1.0 ∙ ap (λ (a : Areas). a.blocks) after, sheet.1.1.1 ∙ ap (λ (a : Areas). a.stretches) after, sheet.1.1.2 ∙ ap (λ (a : Areas). a.counts) after),
-      ),
-    )
+    let after = sym (small_areas at.trace.now areas (omega (arith, c.if-trace-gt-LARGEST_INPUT.false))) in record {
+      text = (sheet.text.0 ∙ ap length line, sheet.text.1 ∙ ap (λ (b : List ℕ). shown b at.text.now) line);
+      short = sheet.short;
+      areas = (sheet.areas.0 ∙ ap (λ (a : Areas). a.blocks) after, sheet.areas.1 ∙ ap (λ (a : Areas). a.stretches) after, sheet.areas.2 ∙ ap (λ (a : Areas). a.counts) after);
+    }

@@ -12,7 +12,7 @@ loop-k-init c = let a = c.args in (omega arith, omega arith, no_counts a.counts.
 
 pub loop-k-preserved : goal.loop-k-preserved
 loop-k-preserved c =
-    let put = c.before in
+    let put = c in
     let loop = put.before.before.before.before.loop in
     let a = put.before.before.before.before.before.before.before.args in
     (omega arith, omega arith, rw add-one (counts_put a.counts.now a.m loop.k loop.invariant.2 put.put-spaced.ensures.0))

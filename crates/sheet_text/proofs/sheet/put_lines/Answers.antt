@@ -20,7 +20,7 @@ loop-m-smaller c = omega arith
 pub loop-m-preserved : goal.loop-m-preserved
 loop-m-preserved c =
     let l = c.loop-m in
-    (omega arith, omega arith, rw add-one (lines_put c.args.counts.now l.m l.invariant.2 c.put_line-at.ensures.0), c.put_line-at.auto.0 ∙ l.invariant.3)
+    (omega arith, omega arith, rw add-one (lines_put c.args.counts.now l.m l.invariant.2 c.put_line-at.ensures.0), c.put_line-at.auto.text ∙ l.invariant.3)
 
 pub shape_of-text : goal.shape_of-text
 shape_of-text c = c.loop-m.invariant.3

@@ -14,8 +14,8 @@ slice_bounds-clear_numbers-end-2 c = sym (length-take-le _ _ (omega arith))
 
 pub returns : goal.returns
 returns c =
-    let start = c.before in
+    let start = c in
     let k = counts_length start.args.n in
-    fronted_is (zeros k) c.clear_numbers.new.0 start.args.counts.now k
+    fronted_is (zeros k) c.clear_numbers.new.area start.args.counts.now k
     (c.clear_numbers.ensures ∙ ap zeros (length-take-le k start.args.counts.now start.requires))
     (length-replicate {A = ℕ} k 0)

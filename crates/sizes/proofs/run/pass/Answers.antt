@@ -13,7 +13,7 @@ clear_counts-requires c = omega arith
 
 pub records-ran-requires : goal.records-ran-requires
 records-ran-requires c =
-    let start = c.before in (
+    let start = c in (
       start.requires.0,
       record {
         places = c.clear_numbers.ensures ∙ ap zeros start.requires.1.places;
@@ -24,14 +24,14 @@ records-ran-requires c =
 
 pub settle-requires : goal.settle-requires
 settle-requires c =
-    let after = c.before in
+    let after = c in
     let start = after.before.before.before.before.before.before.before.before.before.before.before.before.before.before.before.before.before.before.before.before in
     let s = start.args.trace.now in
     let said = after.records.ensures in (omega arith, (reads_from (length s) s start.args.start, said.0, said.1))
 
 pub returns : goal.returns
 returns c =
-    let after = c.before in
+    let after = c in
     let start = after.before.before.before.before.before.before.before.before.before.before.before.before.before.before.before.before.before.before.before.before in
     let s = start.args.trace.now in
     let left = after.records.new.1.1 in

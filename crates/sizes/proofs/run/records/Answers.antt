@@ -18,7 +18,7 @@ ends c = let l = c.loop-at in read_in c.args.trace.now l.at _ c.read_record.ensu
 
 pub loop-at-init : goal.loop-at-init
 loop-at-init c =
-    let start = c.before in
+    let start = c in
     (omega arith, omega arith, refl, refl, refl, refl, sofar_none _ _ _ _ _ _ start.requires.1.places start.requires.1.rows start.requires.1.columns)
 
 pub slice_bounds-read_record-count : goal.slice_bounds-read_record-count
@@ -35,7 +35,7 @@ enum_known-volume c = c.in-Read.keys1
 
 pub read-sums-requires : goal.read-sums-requires
 read-sums-requires c =
-    let start = c.before in
+    let start = c in
     let l = c.loop-at in
     let so = sofar_counted _ _ _ _ _ _ _ _ _ l.invariant.6 in
     record {
@@ -58,7 +58,7 @@ loop-at-smaller c = omega (arith, ends c)
 
 pub loop-at-preserved : goal.loop-at-preserved
 loop-at-preserved c =
-    let key = c.before in
+    let key = c in
     let loop = key.before.before.before.before.before.before.before.loop in
     let start = key.before.before.before.before.before.before.before.before.before.before.before.before in
     let after = c.read-sums in
@@ -70,7 +70,7 @@ loop-at-preserved c =
       omega arith,
       omega arith,
       turn _ _ _ _ _ _ _ _ _ loop.invariant.6 _ key.before.before.before.before.read-record.ensures key.before.before.before.before.before.before.loop-test.true _ _ _ _ _ key.before.before.volume.given.1 _ key.key_of.ensures start.requires.0.within
-          after.new.0 after.new.1.0 after.new.1.1.0 _ kept.0 kept.1.0 kept.1.1.0 kept.1.1.1,
+          after.new.blocks after.new.stretches.0 after.new.stretches.1.0 _ kept.0 kept.1.0 kept.1.1.0 kept.1.1.1,
     )
 
 pub enum_known-why : goal.enum_known-why

@@ -7,7 +7,7 @@ use Rattle.sizes.proofs.run.settle.Goals as goal
 
 pub finish-requires : goal.finish-requires
 finish-requires c =
-    let start = c.before in
+    let start = c in
     let x = start.requires.1 in
     done_ready _ start.args.counts.now x.0 _ x.1 x.2 _ c.ran-1.given.1 start.requires.0
 
@@ -15,11 +15,11 @@ pub clear_counts-requires : goal.clear_counts-requires
 clear_counts-requires c = omega (arith, c.requires.0)
 
 pub returns-in-Done : goal.returns-in-Done
-returns-in-Done c =
-    let start = c.before in
+returns-in-Done c x e t =
+    let start = c in
     done_counted _ start.args.counts.now x _ e t _ c.ran-1.given.1 _ c.finish.ensures
 
 pub returns-in-Refused : goal.returns-in-Refused
-returns-in-Refused c =
-    let start = c.before in
+returns-in-Refused c x e t =
+    let start = c in
     cleared_whole start.args.counts.now _ _ start.requires.0 c.clear_counts.ensures ∙ refused_counted _ start.args.counts.now x _ e _ _ c.enum_told-1.given.1

@@ -21,7 +21,11 @@ shape_of-out-then-places-lt-LARGEST_SIZE c = search rules
 
 pub returns-then-places-lt-LARGEST_SIZE : goal.returns-then-places-lt-LARGEST_SIZE
 unfolding size
-returns-then-places-lt-LARGEST_SIZE c = no_room_lem _ _ _ _ _ c.args.out.now c.if-places-lt-LARGEST_SIZE.true (c.refusal_number.ensures, c.tell_one.ensures)
+returns-then-places-lt-LARGEST_SIZE c =
+    record {
+      told = (no_room_lem _ _ _ _ _ c.args.out.now c.if-places-lt-LARGEST_SIZE.true (c.refusal_number.ensures, c.tell_one.ensures)).0;
+      places = (no_room_lem _ _ _ _ _ c.args.out.now c.if-places-lt-LARGEST_SIZE.true (c.refusal_number.ensures, c.tell_one.ensures)).1;
+    }
 
 pub first_places-requires : goal.first_places-requires
 unfolding size
@@ -50,7 +54,9 @@ shape_of-out c = search rules
 pub returns : goal.returns
 unfolding size
 returns c =
-    let first = c.before in
-    let step = c.step in
-    let long : length step.result.card.places ≡ places_lent = search rules in
-    stepped _ _ _ _ _ first.before.before.before.before.before.args.out.now step.result first.before.before.if1.false first.first-places.ensures step.ensures long c.write_places.ensures c.tell_step.ensures
+    let first = c in
+    let step = c.step-stepped in
+    let long : length step.result.card.places ≡ places_lent = search rules in record {
+      told = (stepped _ _ _ _ _ first.before.before.before.before.before.args.out.now step.result first.before.before.if1.false first.first-places.ensures step.ensures long c.write_places.ensures c.tell_step.ensures).0;
+      places = (stepped _ _ _ _ _ first.before.before.before.before.before.args.out.now step.result first.before.before.if1.false first.first-places.ensures step.ensures long c.write_places.ensures c.tell_step.ensures).1;
+    }

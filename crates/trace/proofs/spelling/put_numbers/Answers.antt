@@ -13,7 +13,7 @@ pub slice_bounds-write_number-count : goal.slice_bounds-write_number-count
 slice_bounds-write_number-count c = omega arith
 
 pub slice_bounds-write_number-start : goal.slice_bounds-write_number-start
-slice_bounds-write_number-start c = sub_write_number c
+slice_bounds-write_number-start c = slice_bounds-write_number-count c
 
 pub slice_bounds-write_number-end : goal.slice_bounds-write_number-end
 slice_bounds-write_number-end c = le_refl _
@@ -37,7 +37,7 @@ pub loop-i-smaller : goal.loop-i-smaller
 loop-i-smaller c = omega arith
 
 pub loop-i-preserved : goal.loop-i-preserved
-loop-i-preserved c = left_turn c.args.buffer.now c.args.at c.args.values.now c.loop-i.buffer c.loop-i.next c.loop-i.i c.loop-i.invariant c.loop-i-test.true c.write_number-next.result c.write_number-next.new.0 c.write_number-next.ensures.0 c.write_number-next.ensures.1
+loop-i-preserved c = left_turn c.args.buffer.now c.args.at c.args.values.now c.loop-i.buffer c.loop-i.next c.loop-i.i c.loop-i.invariant c.loop-i-test.true c.write_number-next.result c.write_number-next.new.part c.write_number-next.ensures.0 c.write_number-next.ensures.1
 
 pub shape_of-buffer : goal.shape_of-buffer
 shape_of-buffer c = c.loop-i.invariant.3

@@ -34,7 +34,7 @@ loop-rest-preserved c =
       omega arith,
       omega (arith, length_high l.rest l.invariant.0 c.loop-rest-test.true),
       length-set l.part l.at (128 + l.rest % 128) ∙ l.invariant.2,
-      put_cons l.part l.at (128 + l.rest % 128) (spelling (l.rest / 128)) (slice_write_part c) ∙ ap (put l.part l.at) (sym high) ∙ l.invariant.3,
+      put_cons l.part l.at (128 + l.rest % 128) (spelling (l.rest / 128)) (bounds-part-at c) ∙ ap (put l.part l.at) (sym high) ∙ l.invariant.3,
     )
 
 pub overflow_cast-part-2 : goal.overflow_cast-part-2
@@ -53,5 +53,5 @@ pub returns : goal.returns
 returns c =
     let l = c.loop-rest in (
       omega (arith, length_low l.rest c.loop-rest-test.false),
-      put_one l.part l.at l.rest (slice_write_part_2 c) ∙ ap (put l.part l.at) (sym (spelling_low l.rest c.loop-rest-test.false)) ∙ l.invariant.3,
+      put_one l.part l.at l.rest (bounds-part-at-2 c) ∙ ap (put l.part l.at) (sym (spelling_low l.rest c.loop-rest-test.false)) ∙ l.invariant.3,
     )
