@@ -5,13 +5,16 @@
 // The list is printed entry by entry, as it is made, and not lent: tests/boundary lends one from C.
 #![tactic(auto)]
 
-ghost use Rattle.std.specs.Prelude.{◌<◌, ◌≤◌, length};
+ghost use Rattle.std.specs.Prelude.{◌<◌, ◌≤◌, length, IfOk};
 
 use salvage::good::Kept;
 use salvage::{Entry, Salvaged};
 use std::io;
 use std::io::Read;
 use terms::Refusal;
+
+// No more of the input is read.
+const LARGEST_INPUT: u64 = 65536;
 
 fn say(rt: &impl Print, text: &[u8]) -> io::Result<()> {
     rt.write_all(text)
@@ -81,7 +84,11 @@ fn say_answer(rt: &impl Print, answer: Salvaged) -> io::Result<()> {
             say_number(rt, b" at ", place as u64)?;
         }
         Salvaged::Short => {
-            say_number(rt, b"refused ", terms::refusal_number(Refusal::Space) as u64)?;
+            say_number(
+                rt,
+                b"refused ",
+                terms::refusal_number(Refusal::Space) as u64,
+            )?;
         }
     }
     Ok(())
@@ -112,7 +119,13 @@ fn keep_in(trace: &[u8], out: &mut [u8], space: usize, room: usize) -> Kept {
     salvage::good::keep_bytes(trace, &mut out[..lent], room)
 }
 
-fn run_case(rt: &impl Print, trace: &[u8], space: usize, room: usize, filled: u8) -> io::Result<()> {
+fn run_case(
+    rt: &impl Print,
+    trace: &[u8],
+    space: usize,
+    room: usize,
+    filled: u8,
+) -> io::Result<()> {
     let mut out = [filled; 320];
     let kept = keep_in(trace, &mut out, space, room);
     let answer = kept.answer;
@@ -126,7 +139,7 @@ fn run_case(rt: &impl Print, trace: &[u8], space: usize, room: usize, filled: u8
 
 // The case at the front of the bytes; answers how many bytes it takes, 0 where there is none.
 fn next_case(rt: &impl Print, bytes: &[u8]) -> io::Result<usize>
-    ensures { result ≤ length bytes.now }
+    ensures { IfOk result (λ taken. taken ≤ length bytes.now) }
 {
     if bytes.len() < 7 {
         return Ok(0);
@@ -154,10 +167,7 @@ fn cases(rt: &impl Print, bytes: &[u8]) -> io::Result<()> {
 }
 
 fn main(rt: HostRuntime) -> io::Result<()> {
-    let mut bytes = io::large_buffer();
-    let n = io::read_full(0, &mut bytes);
-    if n <= 65536 {
-        cases(&rt, &bytes[..n])?;
-    }
-    Ok(())
+    let mut bytes = Vec::new(rt.alloc());
+    rt.reader().take(LARGEST_INPUT).read_to_end(&mut bytes)?;
+    cases(&rt, bytes.as_slice())
 }

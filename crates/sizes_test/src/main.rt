@@ -4,11 +4,14 @@
 // each as two bytes, lower first, and the byte that fills the areas before the run.
 #![tactic(auto)]
 
-ghost use Rattle.std.specs.Prelude.{◌<◌, ◌≤◌, length};
+ghost use Rattle.std.specs.Prelude.{◌<◌, ◌≤◌, length, IfOk};
 
 use pass::answers::Ran;
 use std::io;
 use std::io::Read;
+
+// No more of the input is read.
+const LARGEST_INPUT: u64 = 65536;
 
 fn say(rt: &impl Print, text: &[u8]) -> io::Result<()> {
     rt.write_all(text)
@@ -160,7 +163,10 @@ fn run_case(rt: &impl Print, trace: &[u8], lent: Lengths, value: u8) -> io::Resu
     fill_numbers(&mut blocks, value as u64);
     fill_pairs(&mut stretches, value as u16);
     fill_numbers(&mut counts, value as u64);
-    say_answer(rt, run_on(trace, &mut blocks, &mut stretches, &mut counts, lent))?;
+    say_answer(
+        rt,
+        run_on(trace, &mut blocks, &mut stretches, &mut counts, lent),
+    )?;
     say_changed_numbers(rt, &blocks, value as u64)?;
     say_changed_pairs(rt, &stretches, value as u16)?;
     say(rt, b" counts")?;
@@ -170,7 +176,7 @@ fn run_case(rt: &impl Print, trace: &[u8], lent: Lengths, value: u8) -> io::Resu
 
 // The case at the front of the bytes; answers how many bytes it takes, 0 where there is none.
 fn next_case(rt: &impl Print, bytes: &[u8]) -> io::Result<usize>
-    ensures { result ≤ length bytes.now }
+    ensures { IfOk result (λ taken. taken ≤ length bytes.now) }
 {
     if bytes.len() < 9 {
         return Ok(0);
@@ -201,10 +207,7 @@ fn cases(rt: &impl Print, bytes: &[u8]) -> io::Result<()> {
 }
 
 fn main(rt: HostRuntime) -> io::Result<()> {
-    let mut bytes = io::large_buffer();
-    let n = io::read_full(0, &mut bytes);
-    if n <= 65536 {
-        cases(&rt, &bytes[..n])?;
-    }
-    Ok(())
+    let mut bytes = Vec::new(rt.alloc());
+    rt.reader().take(LARGEST_INPUT).read_to_end(&mut bytes)?;
+    cases(&rt, bytes.as_slice())
 }
