@@ -1,7 +1,8 @@
 // Prints the sheet of the trace on standard input, or says on standard error why there is none.
 #![tactic(auto)]
 
-ghost use Rattle.std.specs.Prelude.{◌≡◌, ◌≤◌, length, IfOk};
+ghost use Rattle.std.specs.Prelude.{◌≡◌, ◌<◌, ◌≤◌, length, take, IfOk, OnOk};
+ghost use Rattle.std.specs.Io.KnownBytes.{Appends, Consumes, IsAtEnd};
 ghost use Rattle.sheet_text.specs.Desk.{printed_of};
 ghost use Rattle.sheet_text.specs.Sheet.{longest_sheet, Shows};
 
@@ -26,7 +27,9 @@ const NO_ANSWER: u8 = 2;
 
 // One read, tried again where a signal interrupted it.
 fn read_some<R: Read>(reader: &mut R, part: &mut [u8]) -> io::Result<usize>
-    ensures { IfOk result (λ got. got ≤ length part.new) }
+    ensures within { IfOk result (λ got. got ≤ length part.new) }
+    ensures bytes { IfOk result (λ got. Consumes (R.remaining reader.old) (R.remaining reader.new) (take got part.new)) }
+    ensures end { IfOk result (λ got. got ≡ 0 → 0 < length part.new → IsAtEnd (R.remaining reader.new)) }
 {
     for _ in 1..TRIES {
         match reader.read(part) {
@@ -39,7 +42,9 @@ fn read_some<R: Read>(reader: &mut R, part: &mut [u8]) -> io::Result<usize>
 
 // Reads to the end of the input, or until the buffer is full. A read that fails is not the end.
 fn read_input<R: Read>(reader: &mut R, input: &mut [u8]) -> io::Result<usize>
-    ensures { IfOk result (λ taken. taken ≤ length input.new) }
+    ensures within { IfOk result (λ taken. taken ≤ length input.new) }
+    ensures bytes { IfOk result (λ taken. Consumes (R.remaining reader.old) (R.remaining reader.new) (take taken input.new)) }
+    ensures end { IfOk result (λ taken. taken < length input.new → IsAtEnd (R.remaining reader.new)) }
 {
     let mut length = 0;
     while length < input.len() {
@@ -55,6 +60,7 @@ fn read_input<R: Read>(reader: &mut R, input: &mut [u8]) -> io::Result<usize>
 // Writes the sheet of an input, which is what its bytes have to be.
 fn write_sheet<W: Write>(input: &[u8], sheet: &[u8], output: &mut W) -> io::Result<()>
     requires { sheet.now ≡ printed_of input.now }
+    ensures { OnOk result (Appends (W.contents output.old) (W.contents output.new) (printed_of input.now)) }
 {
     output.write_all(sheet)?;
     output.flush()
@@ -71,7 +77,9 @@ fn sheet_of(input: &[u8], text: &mut [u8]) -> usize
     desk_sheet(input, &mut blocks, &mut stretches, &mut counts, text)
 }
 
-fn print_sheet<W: Write>(input: &[u8], output: &mut W) -> io::Result<()> {
+fn print_sheet<W: Write>(input: &[u8], output: &mut W) -> io::Result<()>
+    ensures { OnOk result (Appends (W.contents output.old) (W.contents output.new) (printed_of input.now)) }
+{
     let mut text = [0u8; LONGEST_SHEET];
     let written = sheet_of(input, &mut text);
     write_sheet(input, &text[..written], output)
