@@ -11,22 +11,17 @@ use Rattle.engine.proofs.rows.RowCounts.{left_read, left_bypass, left_none, left
 use Rattle.engine.proofs.renewals.Ways.{row_room_lem}
 use Rattle.engine.proofs.sweeps.leaving.Goals as goal
 
--- the row of the block read is no longer than the longest
-short : (c : goal.After-row_at) → c.row_at.result.room ≤ c.args.read.width
-short c = let read = c.args.read in rw (c.row_at.ensures, c.requires.0.wide) (room_most read.n read.j)
-
--- the last row lies in the area, and two numbers fit in it
-last : (c : goal.After-row_at-last) → (2 ≤ c.row_at-last.result.room) × (c.row_at-last.result.start + c.row_at-last.result.room ≤ length c.args.area.now)
-last c = let pre = c.requires in rw c.row_at-last.ensures (row_room_lem _ _ _ pre.0 pre.0.some (omega arith))
-
 pub count_entries-requires : goal.count_entries-requires
-count_entries-requires c = omega (arith, short c, c.requires.2)
+count_entries-requires c =
+    let short : c.row_at.result.room ≤ c.args.read.width = rw (c.row_at.ensures, c.requires.0.wide) (room_most c.args.read.n c.args.read.j) in
+    omega (arith, short, c.requires.2)
 
 pub returns-then-read-gt0 : goal.returns-then-read-gt0
 returns-then-read-gt0 c =
+    let short : c.row_at.result.room ≤ c.args.read.width = rw (c.row_at.ensures, c.requires.0.wide) (room_most c.args.read.n c.args.read.j) in
     let read = c.args.read in
     let co = c.count_entries.ensures in record {
-      range = omega (arith, co.range, short c);
+      range = omega (arith, co.range, short);
       left = λ J L f was.
           let fits : length (pairs J read.n) ≤ c.row_at.result.room = rw c.row_at.ensures (row_fits read.n J read.j f.falling (inl (sym f.there))) in
           left_read J L read.n read.p read.j _ (omega (arith, c.if-read-gt0.true)) (co.counted J read.n fits f.begins);
@@ -40,28 +35,34 @@ returns-then-read c =
     }
 
 pub offset_bounds-area-last : goal.offset_bounds-area-last
-offset_bounds-area-last c = omega (arith, last c)
+offset_bounds-area-last c =
+    let last : (2 ≤ c.row_at-last.result.room) × (c.row_at-last.result.start + c.row_at-last.result.room ≤ length c.args.area.now) = rw c.row_at-last.ensures (row_room_lem _ _ _ c.requires.0 c.requires.0.some (omega arith)) in
+    omega (arith, last)
 
 pub bounds-area-last : goal.bounds-area-last
-bounds-area-last c = omega (arith, last c)
+bounds-area-last c =
+    let last : (2 ≤ c.row_at-last.result.room) × (c.row_at-last.result.start + c.row_at-last.result.room ≤ length c.args.area.now) = rw c.row_at-last.ensures (row_room_lem _ _ _ c.requires.0 c.requires.0.some (omega arith)) in
+    omega (arith, last)
 
 pub returns-then-area-last-eq0 : goal.returns-then-area-last-eq0
 returns-then-area-last-eq0 c =
+    let last : (2 ≤ c.row_at-last.result.room) × (c.row_at-last.result.start + c.row_at-last.result.room ≤ length c.args.area.now) = rw c.row_at-last.ensures (row_room_lem _ _ _ c.requires.0 c.requires.0.some (omega arith)) in
     let read = c.args.read in
     let row = c.row_at-last in record {
       range = omega arith;
       left = λ J L f was.
           let held : Row c.args.area.now row.result (pairs (L read.n) read.n) = rw row.ensures was in
-          left_none J L read.n read.p read.j (omega (arith, c.if-read-gt0.false)) (omega (arith, c.if-read.false)) (sym (row_first _ row.result read.n (L read.n) (omega (arith, (last c).0)) held) ∙ c.if-area-last-eq0.true);
+          left_none J L read.n read.p read.j (omega (arith, c.if-read-gt0.false)) (omega (arith, c.if-read.false)) (sym (row_first _ row.result read.n (L read.n) (omega (arith, last.0)) held) ∙ c.if-area-last-eq0.true);
     }
 
 pub returns : goal.returns
 returns c =
+    let last : (2 ≤ c.row_at-last.result.room) × (c.row_at-last.result.start + c.row_at-last.result.room ≤ length c.args.area.now) = rw c.row_at-last.ensures (row_room_lem _ _ _ c.requires.0 c.requires.0.some (omega arith)) in
     let read = c.args.read in
     let row = c.row_at-last in record {
       range = omega (arith, c.requires.0.wide, c.requires.0.some);
       left = λ J L f was.
           let held : Row c.args.area.now row.result (pairs (L read.n) read.n) = rw row.ensures was in
           left_last J L read.n read.p read.j (omega (arith, c.if-read-gt0.false)) (omega (arith, c.if-read.false)) c.requires.0.some f.family
-          (λ z. c.if-area-last-eq0.false (row_first _ row.result read.n (L read.n) (omega (arith, (last c).0)) held ∙ z));
+          (λ z. c.if-area-last-eq0.false (row_first _ row.result read.n (L read.n) (omega (arith, last.0)) held ∙ z));
     }

@@ -27,16 +27,16 @@ overflow_cast-read-2 c = omega (arith, list_room_lem c.args.n c.requires.in_rang
 
 pub leaving-requires : goal.leaving-requires
 leaving-requires c =
-    let pre = c.before.before.before.before.before.before.requires{-?-} in
-    let low = list_room_lem c.before.before.before.before.before.before.args{-?-}.n pre.in_range_lem in
+    let pre = c.requires in
+    let low = list_room_lem c.args.n pre.in_range_lem in
     let reach = c.priority_of.ensures in
     let ew = c.row_length.ensures in
     (record { read_at = omega (arith, pre.read_at); some = pre.some; narrow = omega arith; wide = ew; room = pre.room }, pre.within, omega (arith, pre.listed))
 
 pub renew_rows-requires : goal.renew_rows-requires
 renew_rows-requires c =
-    let pre = c.before.before.before.before.before.before.before.before.before.requires{-?-} in
-    let low = list_room_lem c.before.before.before.before.before.before.before.before.before.args{-?-}.n pre.in_range_lem in
+    let pre = c.requires in
+    let low = list_room_lem c.args.n pre.in_range_lem in
     let reach = c.priority_of.ensures in
     let ew = c.row_length.ensures in
     let left = c.leaving.ensures.range in (
@@ -55,8 +55,8 @@ renew_rows-requires c =
 
 pub returns : goal.returns
 returns c =
-    let at = c.before.before.before.before.before.before.before.before.before.before.before.before.before.before.args{-?-} in
-    let pre = c.before.before.before.before.before.before.before.before.before.before.before.before.before.before.requires{-?-} in
+    let at = c.args in
+    let pre = c.requires in
     let n = at.n in
     let re = c.renew_rows.ensures in
     let p = c.priority_of.result in
