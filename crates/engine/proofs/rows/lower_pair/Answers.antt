@@ -1,17 +1,16 @@
 -- The list's first place is the block's place in the largest card, so it is the only one.
-use mathlib.Core.Path.{refl, sym, ap, ◌∙◌}
+use mathlib.Core.Path.{sym, ap, ◌∙◌}
 use mathlib.Core.List.{[], ◌∷◌}
 use Prim.Native.Nat.{ℕ, ◌+◌}
 use lib.ListN.{get_or}
 use Rattle.engine.specs.Moves.{other_after}
-use Rattle.engine.proofs.rows.RowLaws.{never, kept_same}
+use Rattle.engine.proofs.rows.RowLaws.{never, unmoved}
 use Rattle.engine.proofs.rows.Singles.{single_row, pairs_lowered, stretches_still}
 use Rattle.engine.proofs.rows.lower_pair.Goals as goal
 
 pub returns-then-area-at : goal.returns-then-area-at
 returns-then-area-at c =
-    let still = kept_same c.args.area.now c.args.to.start c.args.to.room in
-    record { kept = (still, λ e. refl); moved = never }
+    record { kept = unmoved c.args.area.now c.args.to.start c.args.to.room; moved = never }
 
 pub returns : goal.returns
 returns c =

@@ -1,29 +1,26 @@
 -- A list that goes up as it is, and zeros where the row held a longer one.
 use native.Mathlib.Omega.{arith}
-use mathlib.Core.Path.{◌≡◌, refl, sym, ◌∙◌}
+use mathlib.Core.Path.{◌≡◌, sym, ◌∙◌}
 use lib.ListN.{get_or, get_or-eq_default}
 use Prim.Native.Nat.{ℕ, ◌+◌, ◌<◌}
 use Rattle.card.proofs.Tests.{by_lt}
 use Rattle.engine.specs.Moves.{other_after}
 use Rattle.engine.specs.Rows.{pairs}
-use Rattle.engine.proofs.rows.RowLaws.{never, kept_same, row_first, kept_twice}
+use Rattle.engine.proofs.rows.RowLaws.{never, unmoved, row_first, kept_twice}
 use Rattle.engine.proofs.rows.Raisings.{raised_after, raised_stretches}
 use Rattle.engine.proofs.rows.raise_list.Goals as goal
 
 pub returns-then-s-place : goal.returns-then-s-place
 returns-then-s-place c =
-    let still = kept_same c.args.area.now c.args.to.start c.args.to.room in
-    record { kept = (still, λ e. refl); moved = never }
+    record { kept = unmoved c.args.area.now c.args.to.start c.args.to.room; moved = never }
 
 pub returns-then-area-at : goal.returns-then-area-at
 returns-then-area-at c =
-    let still = kept_same c.args.area.now c.args.to.start c.args.to.room in
-    record { kept = (still, λ e. refl); moved = never }
+    record { kept = unmoved c.args.area.now c.args.to.start c.args.to.room; moved = never }
 
 pub returns-then-p-area : goal.returns-then-p-area
 returns-then-p-area c =
-    let still = kept_same c.args.area.now c.args.to.start c.args.to.room in
-    record { kept = (still, λ e. refl); moved = never }
+    record { kept = unmoved c.args.area.now c.args.to.start c.args.to.room; moved = never }
 
 pub close-requires : goal.close-requires
 close-requires c = omega (arith, c.write_raised-count.auto.area)

@@ -27,6 +27,6 @@ shape_of-scratch c = c.loop-k.invariant.turned.spare
 
 pub returns : goal.returns
 returns c = let pre = c.requires in record {
-      grown = (rising_all c.loop-k.invariant pre.1.some (omega (arith, pre.0.fits.narrow, pre.1.within)) (omega arith)).0;
-      leads = (rising_all c.loop-k.invariant pre.1.some (omega (arith, pre.0.fits.narrow, pre.1.within)) (omega arith)).1;
-    }
+  grown = (rising_all c.loop-k.invariant pre.1.some (omega (arith, pre.0.fits.narrow, pre.1.within)) (omega arith)).0;
+  leads = (rising_all c.loop-k.invariant pre.1.some (omega (arith, pre.0.fits.narrow, pre.1.within)) (omega arith)).1;
+}

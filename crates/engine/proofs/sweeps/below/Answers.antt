@@ -38,7 +38,7 @@ pub shape_of-scratch : goal.shape_of-scratch
 shape_of-scratch c = c.loop-k.invariant.turned.spare
 
 pub returns : goal.returns
-returns c = 
+returns c =
     record {
       grown = (sinking_all c.loop-k.invariant (omega (arith, c.requires.0.fits.narrow)) (omega arith)).0;
       leads = (sinking_all c.loop-k.invariant (omega (arith, c.requires.0.fits.narrow)) (omega arith)).1;

@@ -30,7 +30,7 @@ pub shape_of-scratch : goal.shape_of-scratch
 shape_of-scratch c = c.loop-k.invariant.turned.spare
 
 pub returns : goal.returns
-returns c = 
+returns c =
     record {
       grown = (rising_all c.loop-k.invariant (omega arith) (omega (arith, c.requires.0.fits.narrow, c.requires.1.within)) (omega arith)).0;
       leads = (rising_all c.loop-k.invariant (omega arith) (omega (arith, c.requires.0.fits.narrow, c.requires.1.within)) (omega arith)).1;
