@@ -1,8 +1,6 @@
 -- `salvage::good::copy_kept` meets its contract, by the laws of `Keeps`. Assumes nothing.
 use mathlib.Core.Path.{refl}
-use Prim.Native.Nat.{◌+◌, ◌≤◌}
 use native.Mathlib.Omega.{arith}
-use lib.ListN.{length}
 use Rattle.salvage.proofs.Turns.{turn_in}
 use Rattle.salvage.proofs.good.Keeps.{left_none, left_next, left_room, left_turn}
 use Rattle.salvage.proofs.good.copy_kept.Goals as goal

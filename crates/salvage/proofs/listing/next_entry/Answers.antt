@@ -2,7 +2,6 @@
 use mathlib.Core.Path.{refl, sym, ap, ◌∙◌}
 use Prim.Native.Nat.{◌+◌}
 use native.Mathlib.Omega.{arith}
-use lib.ListN.{length}
 use Rattle.salvage.specs.declared.Entry.{Entry}
 use Rattle.salvage.specs.Steps.{next_at}
 use Rattle.salvage.proofs.Turns.{turn_in, turn_passes, turn_finds, no_turn}
