@@ -13,7 +13,7 @@ use Rattle.terms.specs.Refusals.{number_of}
 use Rattle.terms.specs.Ranges.{Range, in_range, block}
 use Rattle.trace.specs.declared.number.Number.{Number}
 use Rattle.trace.specs.declared.number.Number.TheVariants as the_number
-use Rattle.trace.specs.Number.{Value, number_at, top_byte, bytes_before, fault_of}
+use Rattle.trace.specs.Number.{number_at, top_byte, bytes_before, fault_of}
 use Rattle.trace.specs.Reading.{Reading, Refused, field}
 use Rattle.trace.specs.Answers.{number_answer}
 use Rattle.trace.specs.Bounds.{number_limit}
