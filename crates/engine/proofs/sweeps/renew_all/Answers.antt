@@ -14,21 +14,21 @@ use Rattle.engine.proofs.sweeps.Turns.{found_finds}
 use Rattle.engine.proofs.sweeps.renew_all.Goals as goal
 
 pub overflow_cast-read : goal.overflow_cast-read
-overflow_cast-read c = omega (arith, list_room_lem c.args.n c.requires.in_range_lem)
+overflow_cast-read c = omega (arith, list_room_lem c.args.n c.requires.in_range)
 
 pub row_length-requires : goal.row_length-requires
-row_length-requires c = omega (arith, list_room_lem c.args.n c.requires.in_range_lem)
+row_length-requires c = omega (arith, list_room_lem c.args.n c.requires.in_range)
 
 pub priority_of-requires : goal.priority_of-requires
-priority_of-requires c = omega (arith, list_room_lem c.args.n c.requires.in_range_lem)
+priority_of-requires c = omega (arith, list_room_lem c.args.n c.requires.in_range)
 
 pub overflow_cast-read-2 : goal.overflow_cast-read-2
-overflow_cast-read-2 c = omega (arith, list_room_lem c.args.n c.requires.in_range_lem, c.requires.within)
+overflow_cast-read-2 c = omega (arith, list_room_lem c.args.n c.requires.in_range, c.requires.within)
 
 pub leaving-requires : goal.leaving-requires
 leaving-requires c =
     let pre = c.requires in
-    let low = list_room_lem c.args.n pre.in_range_lem in
+    let low = list_room_lem c.args.n pre.in_range in
     let reach = c.priority_of.ensures in
     let ew = c.row_length.ensures in
     (record { read_at = omega (arith, pre.read_at); some = pre.some; narrow = omega arith; wide = ew; room = pre.room }, pre.within, omega (arith, pre.listed))
@@ -36,7 +36,7 @@ leaving-requires c =
 pub renew_rows-requires : goal.renew_rows-requires
 renew_rows-requires c =
     let pre = c.requires in
-    let low = list_room_lem c.args.n pre.in_range_lem in
+    let low = list_room_lem c.args.n pre.in_range in
     let reach = c.priority_of.ensures in
     let ew = c.row_length.ensures in
     let left = c.leaving.ensures.range in (

@@ -27,10 +27,10 @@ stretches_length-end-requires c = (header_in c.args.trace.now _ c.read_header.en
 pub pass-requires : goal.pass-requires
 unfolding size
 pass-requires c =
-    let in_range_lem = header_in c.args.trace.now _ c.read_header.ensures _ _ _ c.in-Accepted.is in
+    let in_range = header_in c.args.trace.now _ c.read_header.ensures _ _ _ c.in-Accepted.is in
     let args = c.args in
     let long = room_in _ _ _ _ _ c.is_room.ensures c.if-not-is_room.false in (
-      record { some = in_range_lem.0; within = in_range_lem.1; inside = in_range_lem.2 },
+      record { some = in_range.0; within = in_range.1; inside = in_range.2 },
       record {
         places = length-take-le _ args.blocks.now long.0;
         rows = length-take-le _ args.stretches.now (omega (arith, long.1, c.stretches_length-end.ensures)) ∙ c.stretches_length-end.ensures;
