@@ -1,5 +1,5 @@
 -- What `sheet::print_sheet` hands over to be written is the sheet of its input, whole.
-use Rattle.std.proofs.Common.{ℕ, arith, length}
+use Rattle.std.proofs.Common.{ℕ, arith}
 use Rattle.std.proofs.Math.ListN.{replicate, length-replicate}
 use Rattle.sheet_text.specs.Sheet.{longest_sheet}
 use Rattle.sheet_text.proofs.SheetFacts.{shows_whole}
