@@ -54,7 +54,7 @@ UNPROVED = 'sheet: no program that is proved from the sources as they stand:'
 
 PROOF = 900  # seconds: as long as the real kit may take for the program
 # in the real program: other words for an input that fails, what is then said, and a text that is too short to be proved
-OTHER_WORDS = 'b"sheet: standard input"', 'b"sheet: the input"'
+OTHER_WORDS = '"standard input"', '"the input"'
 OTHER_SAID = 'sheet: the input: Is a directory'
 LESS_ROOM = 'LONGEST_SHEET: usize = 32768', 'LONGEST_SHEET: usize = 32767'
 
