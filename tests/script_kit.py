@@ -31,6 +31,7 @@ logic=proved functions=1 incremental=trusted
 NOT_PROVED = '''rt: chose --jobs 2 for sheet
 ./proofs/main/Answers.antt:7:1: error: a hole is left
 fn sheet::main: not proved
+fn sheet::told: no proof: expected answers in ./proofs/told/Answers.antt
 fn sheet::main+run: no proof: it calls `sheet::main`, which is not proved
 crate sheet: modules loaded=30 checked=10
 logic=not-proved
@@ -139,7 +140,7 @@ def check_staleness(tally, desk):
         tally.equal('a program that was ' + what, (desk.ended(), desk.asked()), ((0, edges.WORKED_SHEET, ''), ANEW))
     desk.has('printf %s "$SHEET"; echo ran >>"$LOG"')
     desk.kit('', NOT_PROVED, 1)
-    said = UNPROVED + '\n./proofs/main/Answers.antt:7:1: error: a hole is left\nfn sheet::main: not proved\n'
+    said = UNPROVED + ''.join('\n' + line for line in NOT_PROVED.split('\n')[1:4]) + '\n'
     tally.equal('a check that failed', (desk.ended(), desk.asked()), ((2, '', said), STAMPED))
     said = 'rt: the library low did not build, so nothing above it was checked\n'
     desk.kit('', said, 1)
@@ -268,7 +269,7 @@ def check_sources(tally, desk):
     tally.equal('changed sources', (status, shown, last_crate(told), told.split('\n')[-2]), (2, '', 'sheet', OTHER_SAID))
     source.write_text(changed(text, *LESS_ROOM))
     status, shown, said = edges.ended(script, given=edges.WORKED, timeout=PROOF)
-    told = (status, shown, UNPROVED in said, re.search('^fn sheet::.*: not proved', said, re.MULTILINE) is not None)
+    told = (status, shown, UNPROVED in said, re.search('^fn sheet::sheet_of: no', said, re.MULTILINE) is not None)
     tally.equal('sources that are not proved', told, (2, '', True, True))
 
 
