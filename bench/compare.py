@@ -6,7 +6,6 @@ Every program runs every trace, and all have to give the same counts before thei
 import math
 import multiprocessing
 import os
-import subprocess
 import sys
 
 import counting
@@ -31,9 +30,8 @@ ROW = '%4s %-4s %-9s %6s' + (1 + len(IN_C)) * ' %7s' + len(RATIOS) * ' %6s'
 
 def programs():
     """All programs; the proved one is built, and proved where that was not done yet."""
-    subprocess.run(['rt', 'check', 'sizes_test'], cwd=counting.kit.ROOT, stdout=subprocess.DEVNULL, check=True)
     built = {name: counting.built(name, source, *options.split()) for name, (source, options, _) in IN_C.items()}
-    return {PROVED: counting.kit.ROOT / 'target' / 'bin' / 'sizes_test', **built}
+    return {PROVED: counting.kit.program('sizes_test'), **built}
 
 
 def answer(line, size):
@@ -57,8 +55,8 @@ def agree(answers, workload):
 
 def counted(paths, size, data):
     """The instructions and the answer of each program on one trace."""
-    count, given = counting.counter(), traces.case(size, data)
-    found = {name: count(path, given) for name, path in paths.items()}
+    given = traces.case(size, data)
+    found = {name: counting.count(path, given) for name, path in paths.items()}
     counts = {name: instructions for name, (instructions, _) in found.items()}
     return counts, {name: answer(line, size) for name, (_, line) in found.items()}
 
@@ -95,8 +93,8 @@ def summary(size, costs):
 
 
 def main(sizes):
-    if counting.counter() is None:
-        raise SystemExit('no way to count instructions: needs valgrind on x86-64, and the kit\'s emulator elsewhere')
+    if not counting.can_count():
+        raise SystemExit('no way to count instructions: needs valgrind')
     paths = programs()
     workloads = [(n, pool, kind) for n in sizes for pool in traces.POOLS for kind in traces.PRIORITIES]
     told = ', '.join('%s %s' % (name, words) for name, (*_, words) in IN_C.items())

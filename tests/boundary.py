@@ -18,22 +18,12 @@ import kit
 
 HERE = pathlib.Path(__file__).resolve().parent / 'boundary'
 HEADER = kit.ROOT / 'include' / 'supharoek.h'
-UNITS = kit.ROOT / 'target' / 'boundary'
+UNITS = kit.BUILT / 'boundary'
 # the kit has a C library and none of its headers, so those that are needed stand beside the check
 INCLUDES = ['-nostdinc', '-isystem', HERE / 'include', '-I', HEADER.parent]
 FLAGS = ['-std=c99', '-pedantic', '-O2', *INCLUDES]
 # what a unit is made from, whichever it is
 ORIGINS = [HEADER, *HERE.rglob('*.[ch]'), *map(pathlib.Path, (__file__, c_tools.__file__))]
-
-
-def archive_made():
-    """The archive of the proved crate; what `rt` says is shown where it could not be made."""
-    made = subprocess.run(['rt', 'staticlib', 'supharoek'], cwd=kit.ROOT, stdout=subprocess.PIPE,
-                          stderr=subprocess.STDOUT, text=True)
-    if made.returncode != 0:
-        print(made.stdout)
-        raise SystemExit('the archive could not be made')
-    return kit.ROOT / 'target' / 'staticlib' / 'libsupharoek.a'
 
 
 def unit(name, source):
@@ -96,7 +86,7 @@ def check_example(tally, program):
 def main(archive=None):
     tally = compare.Tally()
     folder = pathlib.Path(archive).resolve().parent / 'boundary' if archive else UNITS
-    archive = archive or archive_made()
+    archive = archive or kit.archive('supharoek')
     for needed in (UNITS, folder):
         needed.mkdir(parents=True, exist_ok=True)
     c_tools.clang('-x', 'c++', '-std=c++11', '-pedantic', *INCLUDES, '-fsyntax-only', HEADER)

@@ -1,18 +1,16 @@
-"""Compiles C with the kit's clang, and links it with the C library that the proved programs run with."""
-import platform
+"""Compiles C with the kit's clang, and links it with the C library that stands in the kit."""
 import subprocess
 
 import kit
 
-MACHINE = platform.machine()
-TOOLS = kit.kit() / 'on' / MACHINE / 'toolchain' / 'bin'
+TOOLS = kit.kit() / 'toolchain' / 'bin'
 LIBRARIES = kit.kit() / 'toolchain' / 'lib'
 LOADER = LIBRARIES / 'ld-linux-x86-64.so.2'
 FLAGS = ['--target=x86_64-linux-gnu', '-fPIE', '-Wall', '-Wextra', '-Werror']
 
 
 def clang(*options):
-    """Runs the compiler for x86-64 on any machine."""
+    """Runs the compiler."""
     subprocess.run([TOOLS / 'clang', *FLAGS, *options], check=True)
 
 
@@ -35,3 +33,10 @@ def shared(library, unit):
     """A library that a loader can put before a program's own."""
     subprocess.run([TOOLS / 'ld.lld', '-shared', unit, LIBRARIES / 'libc.so.6', '-o', library], check=True)
     return library
+
+
+def archived(archive, *units):
+    """A static library of units."""
+    archive.unlink(missing_ok=True)
+    subprocess.run([TOOLS / 'llvm-ar', 'rcs', archive, *units], check=True)
+    return archive

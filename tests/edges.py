@@ -14,7 +14,7 @@ import kit
 from sheet_rule import WORKED, WORKED_SHEET
 
 PATIENCE = 200  # seconds: a command that takes longer hangs
-FOLDER = kit.ROOT / 'target' / 'edges'
+FOLDER = kit.BUILT / 'edges'
 # a day that was cut short: a right trace that is the front of a longer one
 CUT_SHORT = bytes.fromhex('0103') + bytes.fromhex('010a01') * 50
 
@@ -25,7 +25,8 @@ def ended(command, redirections='', given=None, **more):
         command = ['bash', '-c', '"$@" ' + redirections, 'bash', *command]
     if 'stdin' not in more:
         more['input'] = given or b''
-    ran = subprocess.run(list(map(str, command)), stdout=subprocess.PIPE, stderr=subprocess.PIPE, timeout=PATIENCE, **more)
+    more.setdefault('timeout', PATIENCE)
+    ran = subprocess.run(list(map(str, command)), stdout=subprocess.PIPE, stderr=subprocess.PIPE, **more)
     return ran.returncode, ran.stdout.decode(), ran.stderr.decode()
 
 

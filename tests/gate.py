@@ -16,6 +16,20 @@ import edges
 import kit
 
 PASSED = '3 passed, 0 failed'
+# what `rt ci` says before its last line where nothing failed, with what it tells of must-fail edits
+OK = 'rt: ok; handles allowed: none; %sdone in this run: 2 of the 9 proofs (of crates and of their tests)'
+REFUSED = 'must-fail edits: 50 refused; '
+# what is told of them, and how many failures that adds
+EDITS = (
+    (REFUSED, 0),
+    ('must-fail edits: 50 refused, 3 of them only by a limit; ', 0),
+    ('must-fail edits: 49 refused, 1 bad; ', 1),
+    ('must-fail edits: 30 refused, 3 of them only by a limit, 20 bad; ', 20),
+    ('must-fail edits: 50 refused, 0 bad; ', 0),
+    ('must-fail edits: 0 refused, 50 bad; ', 50),
+    ('must-fail edits: 0 refused; ', 1),
+    ('', 1),
+)
 ENDING = 'echo working\nprintf "%%s\\n" "%s"\nexit %d\n'
 # how one part of the gate ends, with which status, and what that adds to what passed and failed
 ENDS = (
@@ -40,13 +54,14 @@ def parts(gate):
 def listed(root):
     """The crates of a repository's crates.txt."""
     lines = (line.partition('#')[0] for line in (root / 'crates.txt').read_text().split('\n'))
-    return {line.partition(':')[0].strip() for line in lines if ':' in line}
+    return {line.partition(':')[0].split()[0] for line in lines if ':' in line}
 
 
 def lost(root):
     """What is stored for a program that the kit does not run, crates without code, and code without a listed crate."""
     crates = root / 'crates'
-    stored = {path.parent.name for name in ('stdin', 'stdout', 'args', 'data') for path in crates.glob('*/' + name)}
+    kinds = ('stdin', 'stdout', 'args', 'status', 'data')
+    stored = {path.parent.name for name in kinds for path in crates.glob('*/' + name)}
     programs, libraries = ({path.parent.parent.name for path in crates.glob('*/src/%s.rt' % name)} for name in ('main', 'lib'))
     found = {'no program for what is stored': stored - programs, 'stored for no listed crate': stored - listed(root),
              'a folder of no listed crate': {path.name for path in crates.iterdir()} - listed(root),
@@ -94,13 +109,73 @@ def check_versions(tally):
     tally.equal('the table of refused versions', sorted((path, words) for words, path in rows), sorted(edits.items()))
 
 
-def check_theorems(tally):
-    """What docs/PROVED.md names is there: each theorem in the proofs of some crate, and each file."""
+def tables(text):
+    """The tables of a page: for each its heads, and its rows as lists of cells."""
+    for block in re.findall(r'((?:^\|.*\|\n)+)', text, re.MULTILINE):
+        heads, _, *rows = ([cell.strip() for cell in line[1:-1].split(' | ')] for line in block[:-1].split('\n'))
+        yield heads, rows
+
+
+def declares(path, name):
+    """Whether a file, or one in a folder, has a theorem, or in code a function or a promise, of this name."""
+    words = {'.antt': r'^ *pub %s :', '.rt': r'(?:\bfn|\bensures) %s\b'}
+    files = path.rglob('*.*') if path.is_dir() else [path]
+    return any(re.search(words[file.suffix] % re.escape(name), file.read_text(), re.MULTILINE)
+               for file in files if file.suffix in words and file.is_file())
+
+
+def named(text):
+    """What the tables of theorems name, each with the files that are told beside it."""
+    for heads, rows in tables(text):
+        theorems = next((i for i, head in enumerate(heads) if head in ('Theorem', 'Contract or theorem')), None)
+        for row in rows if theorems is not None else ():
+            folder = re.fullmatch(r'File(?: in `(.*)`)?', heads[-1])[1]
+            files = [file if '/' in file else '%s/%s' % (folder, file) for file in re.findall(r'`([^`]*)`', row[-1])]
+            for name in re.findall(r'`([a-z]\w*)`', row[theorems]):
+                yield name, files
+
+
+def shown(text):
+    """The words of code that a page shows: those that stand alone, and in a longer piece those that are no plain words."""
+    for quoted in re.findall(r'`([^`\n]*)`', text):
+        words = re.findall(r"(?<![\w.])[a-z]\w*(?:[-']\w+)*(?![\w.])", '' if '/' in quoted else quoted)
+        yield from (word for word in words if word == quoted or re.search('[-_A-Z]', word))
+
+
+def not_there(text, root):
+    """What a page names and is not in a repository: theorems where its tables have them, words of code, and files."""
+    theorems = {name for name, files in named(text) if not any(declares(root / file, name) for file in files)}
+    code = '\n'.join(path.read_text() for part in ('specs', 'proofs', 'src') for path in root.glob('crates/*/%s/**/*.*' % part))
+    words = set(re.findall(r"\w+(?:[-']\w+)*", code)) | {path.name for path in root.glob('crates/*')}
+    files = {path for path in re.findall(r'`((?:crates|tests|include|docs)/[^`]*)`', text) if not (root / path).exists()}
+    return theorems, set(shown(text)) - words, files
+
+
+def check_theorems(tally, folder):
+    """What docs/PROVED.md names is there; and where something that a page names is not, that is noticed."""
     text = (kit.ROOT / 'docs' / 'PROVED.md').read_text()
-    proofs = '\n'.join(path.read_text() for path in kit.ROOT.glob('crates/*/proofs/*.antt'))
-    theorems = set(re.findall(r'`([a-z]\w*(?:-\w+)+)`', text)) - set(re.findall(r'^ *pub (\S+) :', proofs, re.MULTILINE))
-    files = {path for path in re.findall(r'`((?:crates|tests)/[^`]*)`', text) if not (kit.ROOT / path).exists()}
-    tally.equal('theorems and files that are named and not there', (theorems, files), (set(), set()))
+    tally.equal('what is named and not there', not_there(text, kit.ROOT), (set(), set(), set()))
+    tally.equal('many theorems are named', len(set(name for name, _ in named(text))) > 100, True)
+    root = folder / 'page'
+    for part in ('specs', 'proofs', 'src'):
+        (root / 'crates' / 'told' / part).mkdir(parents=True)
+    (root / 'crates' / 'told' / 'specs' / 'Words.antt').write_text('pub defined_of : Word\n')
+    (root / 'crates' / 'told' / 'proofs' / 'Laws.antt').write_text('pub held : Law\nunheld : Law\n')
+    (root / 'crates' / 'told' / 'src' / 'lib.rt').write_text('fn kept()\n    ensures short { true }\n')
+    page = '| What | Theorem | File in `crates/told/proofs` |\n|---|---|---|\n| `defined_of` | `%s` | `%s` |\n\nAs %s.\n'
+    for name, file, told, want in (
+            ('held', 'Laws.antt', '`kept`', ((), (), ())),
+            ('kept', 'crates/told/src/lib.rt', '`defined_of x`', ((), (), ())),
+            ('short', 'crates/told/src', '`crates/told/src/lib.rt`', ((), (), ())),
+            ('unheld', 'Laws.antt', 'told', (('unheld',), (), ())),
+            ('held', 'Words.antt', 'told', (('held',), (), ())),
+            ('held-so', 'Laws.antt', 'told', ((), ('held-so',), ())),
+            ('lost', 'Lost.antt', 'told', (('lost',), ('lost',), ())),
+            ('held', 'Laws.antt', '`definedOf x` of `told::kept`', ((), ('definedOf',), ())),
+            ('held', 'Laws.antt', '`gone` and `gone x`', ((), ('gone',), ())),
+            ('held', 'Laws.antt', '`crates/told/specs/Laws.antt`', ((), (), ('crates/told/specs/Laws.antt',)))):
+        want = tuple(map(set, want))
+        tally.equal('a page with %s, %s, %s' % (name, file, told), not_there(page % (name, file, told), root), want)
 
 
 class Gate:
@@ -122,8 +197,9 @@ class Gate:
         (self.tools / name).write_text('#!/bin/sh\n' + text)
         (self.tools / name).chmod(0o755)
 
-    def kit(self, last, status):
-        self.tool('rt', ENDING % (last, status))
+    def kit(self, last, status, said=OK % REFUSED):
+        """From now on `rt ci` says this before its last line, and ends so; with other words it fails."""
+        self.tool('rt', '[ "$*" = ci ] || exit 9\n' + ENDING % ('%s\n%s' % (said, last), status))
 
     def ends(self, test, last, status):
         (self.root / 'tests' / (test + '.py')).write_text(ENDING % (last, status))
@@ -147,6 +223,15 @@ def check_gate(tally, folder, gate):
         gate.ends(gate.tests[-1], last, status)
         tally.equal('the last test ends with %r, %d' % (last, status), gate.ended(), want)
         gate.ends(gate.tests[-1], PASSED, 0)
+    for told, failed in EDITS:
+        gate.kit(PASSED, 0, OK % told)
+        want = (1 if failed else 0, '%d passed, %d failed' % (others + 3, failed))
+        tally.equal('rt says %r' % told, gate.ended(), want)
+    for said, last, want in (('', PASSED, (1, '%d passed, 1 failed' % (others + 3))),
+                             ('rt: FAILED: low/zero.edit', '2 passed, 1 failed', (1, '%d passed, 1 failed' % (others + 2)))):
+        gate.kit(last, want[0] if 'FAILED' in said else 0, said)
+        tally.equal('rt says %r' % said, gate.ended(), want)
+    gate.kit(PASSED, 0)
     for test in gate.tests:
         gate.ends(test, '2 passed, 1 failed', 1)
         tally.equal(test + ' fails', gate.ended(), (1, '%d passed, 1 failed' % (others + 2)))
@@ -162,8 +247,8 @@ def main(gate=kit.ROOT / '.ci' / 'run'):
     tally, gate = compare.Tally(), pathlib.Path(gate)
     check_parts(tally, gate)
     check_versions(tally)
-    check_theorems(tally)
     with tempfile.TemporaryDirectory() as name:
+        check_theorems(tally, pathlib.Path(name))
         check_stored(tally, pathlib.Path(name))
         check_gate(tally, pathlib.Path(name), gate)
     return tally.end()

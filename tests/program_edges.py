@@ -2,9 +2,10 @@
 
     python3 tests/program_edges.py [PROGRAM]
 
-The program has no exit status, so what it says on standard error is all that tells."""
+It says on standard error what failed, and ends with status 2."""
 import pathlib
 import sys
+import tempfile
 
 import compare
 import edges
@@ -16,14 +17,15 @@ LARGE = 'refused 10 at 16384\n'
 
 def failed(why):
     """How the program ends where a read fails."""
-    return 0, '', 'sheet: standard input: %s\n' % why
+    return 2, '', 'sheet: standard input: %s\n' % why
 
 
 def stepped(program, **steps):
     """How the program ended with calls that go by steps, on the input given."""
     command, given = kit.command(program, edges.calls_library()), steps.pop('given', edges.WORKED)
+    redirections = steps.pop('redirections', '')
     words = {name: value if isinstance(value, str) else ' '.join(map(str, value)) for name, value in steps.items()}
-    return edges.ended(command, given=given, env=words)
+    return edges.ended(['env', *map('='.join, words.items()), *command], redirections, given=given)
 
 
 def check_inputs(tally, program):
@@ -64,13 +66,23 @@ def check_outputs(tally, program):
     command, sheet = kit.command(program), edges.WORKED_SHEET
     said = 'sheet: standard output: %s\n'
     for redirection, why in (('>/dev/full', 'No space left on device'), ('>&-', 'Bad file descriptor')):
-        tally.equal('output %s' % redirection, edges.ended(command, redirection, given=edges.WORKED), (0, '', said % why))
+        tally.equal('output %s' % redirection, edges.ended(command, redirection, given=edges.WORKED), (2, '', said % why))
     for steps, taken, why in (([40, edges.error('ENOSPC')], 40, 'No space left on device'),
                               ([edges.error('EIO')], 0, 'Input/output error'),
                               ([1] * 20 + [edges.error('EAGAIN')], 20, 'Resource temporarily unavailable')):
-        tally.equal('writes %s' % steps, stepped(program, WRITES=steps), (0, sheet[:taken], said % why))
+        tally.equal('writes %s' % steps, stepped(program, WRITES=steps), (2, sheet[:taken], said % why))
     tally.equal('writes of little', stepped(program, WRITES=[1, 2, 3, 50, 1]), (0, sheet, ''))
-    tally.equal('a close that fails', stepped(program, CLOSES=[edges.error('EIO')]), (0, sheet, said % 'Input/output error'))
+    failing = [edges.error('EIO')]
+    tally.equal('a pipe, which does not wait for a disk', stepped(program, SYNCS=failing), (0, sheet, ''))
+    with tempfile.TemporaryDirectory() as folder:
+        file = pathlib.Path(folder) / 'printed'
+        for what, steps, want in (('a file', {}, (0, '', '')),
+                                  ('a file that the disk takes', {'SYNCS': [0]}, (0, '', '')),
+                                  ('a file that the disk does not take', {'SYNCS': failing}, (2, '', said % 'Input/output error'))):
+            have = stepped(program, redirections=">'%s'" % file, **steps)
+            tally.equal(what, (have, file.read_text()), (want, sheet))
+            tally.equal('more of ' + what, edges.ended(command, ">>'%s'" % file, given=edges.WORKED), (0, '', ''))
+            tally.equal('both of ' + what, file.read_text(), 2 * sheet)
 
 
 def main(program='sheet'):

@@ -115,6 +115,8 @@ def check_failed_outputs(tally, script, folder):
 
 def main(script=kit.ROOT / 'sheet'):
     tally, script = compare.Tally(), pathlib.Path(script).absolute()
+    # made first, so that the script has not to prove it, which takes minutes
+    kit.program('sheet')
     with tempfile.TemporaryDirectory() as name:
         folder = pathlib.Path(name)
         check_names(tally, script, folder)

@@ -18,15 +18,46 @@ import edges
 import kit
 
 # what the script needs, but for `rt`, and what stands in for that and for the program
-TOOLS = ('bash', 'cat', 'awk', 'readlink', 'mkdir', 'rm', 'flock', 'dirname', 'env', 'sleep', 'wc', 'cp')
-UNCHANGED = ''.join('rt: %s proved (unchanged since it was last proved)\n' % crate for crate in ('low', 'middle', 'sheet'))
+TOOLS = ('bash', 'cat', 'awk', 'readlink', 'mkdir', 'rm', 'flock', 'dirname', 'env', 'sleep', 'wc', 'cp', 'cksum')
+UNCHANGED = '''rt: nothing has changed since the last proved build, by out/sheet.stamp, so nothing is checked now
+rt: running out/sheet; to give it other input, run that file yourself
+'''
+# what the kit says of a crate that it proves, and of one that it does not
+PROVED = '''rt: chose --jobs 2 for {0}
+fn {0}::first: proved
+crate {0}: modules loaded=0 checked=40
+logic=proved functions=1 incremental=trusted
+'''
+NOT_PROVED = '''rt: chose --jobs 2 for sheet
+./proofs/main/Answers.antt:7:1: error: a hole is left
+fn sheet::main: not proved
+fn sheet::told: no proof: expected answers in ./proofs/told/Answers.antt
+fn sheet::main+run: no proof: it calls `sheet::main`, which is not proved
+crate sheet: modules loaded=30 checked=10
+logic=not-proved
+rattle build: nothing was built, since only a proved crate is built
+'''
+# As the real kit it makes the program anew where that is not the one of its stamp, runs it, and reads what stands before
+# it; what it says goes to standard error.
 KIT = '''#!/usr/bin/env bash
 cat >/dev/null
-echo "$* in $PWD$([ -e target/stamp/sheet ] && echo ' stamped')" >>"$LOG"
+echo refused 1 at 0
+exec >&2
+[ -e out/sheet ] && [ -e out/sheet.stamp ] && [ "$(cksum <out/sheet)" = "$(cat out/sheet.stamp)" ] && stamped=' stamped'
+echo "$* in $PWD$stamped" >>"$LOG"
+[ "$stamped" ] || { cp made out/sheet && cksum <out/sheet >out/sheet.stamp; }
 %s
 '''
 SAID = 'sheet: no sheet: the program failed\n'
-STAMPED, ANEW = 'check sheet stamped\n', 'check sheet\n'
+STAMPED, ANEW = 'run stamped\n', 'run\n'
+PROVING = 'sheet: proving and building the program, 3 crates; this takes a few minutes\n'
+UNPROVED = 'sheet: no program that is proved from the sources as they stand:'
+
+PROOF = 900  # seconds: as long as the real kit may take for the program
+# in the real program: other words for an input that fails, what is then said, and a text that is too short to be proved
+OTHER_WORDS = '"standard input"', '"the input"'
+OTHER_SAID = 'sheet: the input: Is a directory'
+LESS_ROOM = 'LONGEST_SHEET: usize = 32768', 'LONGEST_SHEET: usize = 32767'
 
 
 def script_file(path, text):
@@ -39,16 +70,15 @@ class Desk:
 
     def __init__(self, folder, script):
         self.root, self.tools, self.log = folder / 'root', folder / 'tools', folder / 'log'
-        self.program = self.root / 'target' / 'bin' / 'sheet'
-        self.stamp, self.linked = self.root / 'target' / 'stamp' / 'sheet', self.root / 'target' / 'obj' / 'sheet.o'
-        for place in (self.tools, self.program.parent, self.stamp.parent, self.linked.parent, self.root / 'target' / 'log'):
+        self.crate = self.root / 'crates' / 'sheet'
+        self.program, self.stamp = self.crate / 'out' / 'sheet', self.crate / 'out' / 'sheet.stamp'
+        for place in (self.tools, self.program.parent):
             place.mkdir(parents=True)
         for tool in TOOLS:
             (self.tools / tool).symlink_to(shutil.which(tool))
-        # so that a program that is a script can be run on every machine
-        script_file(self.tools / 'uname', '#!/usr/bin/env bash\necho x86_64\n')
         shutil.copy(script, self.root / 'sheet')
-        (self.root / 'crates.txt').write_text('# NAME: built on\nlow:\nmiddle: low # and nothing else\nsheet: middle low io\nother: low\n')
+        crates = '# NAME: built on\nlow:\nmiddle: low # and nothing else\nsheet: middle low io\nother staticlib: low\n'
+        (self.root / 'crates.txt').write_text(crates)
         self.kit('')
         self.has('printf %s "$SHEET"')
 
@@ -57,16 +87,16 @@ class Desk:
         script_file(self.tools / 'rt', KIT % '%s\ncat <<"SAYS"\n%sSAYS\nexit %d' % (does, says, status))
 
     def has(self, program):
-        """From now on this program lies there, linked from what is older and checked after it was made."""
-        script_file(self.program, '#!/usr/bin/env bash\n' + program + '\n')
-        self.dated(self.linked, -1)
-        self.dated(self.stamp, 1)
+        """From now on this program lies there, and is what the kit makes of the sources."""
+        script_file(self.crate / 'made', '#!/usr/bin/env bash\n' + program + '\n')
+        shutil.copy(self.crate / 'made', self.program)
+        self.stamp.write_bytes(subprocess.run(['cksum'], input=self.program.read_bytes(), stdout=subprocess.PIPE).stdout)
 
-    def dated(self, path, later):
-        """A file that is so many seconds younger than the program."""
-        path.touch()
-        date = self.program.stat().st_mtime + later
-        os.utime(path, (date, date))
+    def replaced(self, later):
+        """The program is another, so many seconds younger than the stamp; it tells if it is run."""
+        script_file(self.program, '#!/usr/bin/env bash\necho ran >>"$LOG"; echo another\n')
+        date = self.stamp.stat().st_mtime + later
+        os.utime(self.program, (date, date))
 
     def ended(self, redirections='', **more):
         environment = {'PATH': str(self.tools), 'LOG': str(self.log), 'SHEET': edges.WORKED_SHEET}
@@ -75,8 +105,8 @@ class Desk:
         return edges.ended([self.root / 'sheet'], redirections, given=edges.WORKED, env=environment, **more)
 
     def asked(self):
-        """What the kit was asked here: to check, with a stamp that it could go by or anew; and whether the program ran."""
-        return self.log.read_text().replace(' in %s' % self.root, '')
+        """What the kit was asked in the crate: to run, with a stamp that it could go by or anew; and whether another program ran."""
+        return self.log.read_text().replace(' in %s' % self.crate, '')
 
 
 def check_programs(tally, desk):
@@ -104,38 +134,62 @@ def check_staleness(tally, desk):
     """What lies there is run only after a check that holds for it."""
     desk.has('printf %s "$SHEET"')
     tally.equal('a program that was checked', (desk.ended(), desk.asked()), ((0, edges.WORKED_SHEET, ''), STAMPED))
-    for what, path, later in (('put there later', desk.stamp, -1), ('put back with its date', desk.linked, 1)):
+    for what, later in (('put there later', 1), ('put back with its date', -1)):
         desk.has('printf %s "$SHEET"')
-        desk.dated(path, later)
+        desk.replaced(later)
         tally.equal('a program that was ' + what, (desk.ended(), desk.asked()), ((0, edges.WORKED_SHEET, ''), ANEW))
     desk.has('printf %s "$SHEET"; echo ran >>"$LOG"')
-    says = 'rt: low proved (unchanged since it was last proved)\nan error\nrt: sheet NOT PROVED (exit 1, 6 s)\nrt: FAILED: sheet\n'
-    desk.kit('', says, 1)
-    said = 'sheet: no program that is proved from the sources as they stand:\nrt: sheet NOT PROVED (exit 1, 6 s)\nrt: FAILED: sheet\n'
+    desk.kit('', NOT_PROVED, 1)
+    said = UNPROVED + ''.join('\n' + line for line in NOT_PROVED.split('\n')[1:4]) + '\n'
     tally.equal('a check that failed', (desk.ended(), desk.asked()), ((2, '', said), STAMPED))
+    said = 'rt: the library low did not build, so nothing above it was checked\n'
+    desk.kit('', said, 1)
+    tally.equal('a crate below that failed', (desk.ended(), desk.asked()), ((2, '', UNPROVED + '\n' + said), STAMPED))
     desk.kit('kill -9 $$')
     tally.equal('a check that was ended', (desk.ended()[:2], desk.asked()), ((2, ''), STAMPED))
-    desk.kit('')
-    desk.program.unlink()
+    desk.kit('echo "the kit is broken"; exit 2')
+    tally.equal('a kit that fails', (desk.ended(), desk.asked()), ((2, '', UNPROVED + '\nthe kit is broken\n'), STAMPED))
+    # the real kit leaves no stamp then
+    desk.kit('rm out/sheet.stamp')
+    said = UNPROVED + ' they changed while it was proved\n'
+    tally.equal('sources that change meanwhile', (desk.ended(), desk.asked()), ((2, '', said), STAMPED))
+    desk.kit('rm out/sheet')
     said = 'sheet: the program is not where it was built: %s\n' % desk.program
     tally.equal('no program', (desk.ended(), desk.asked()), ((2, '', said), ANEW))
-    desk.kit('cp made target/bin/sheet')
-    script_file(desk.root / 'made', '#!/usr/bin/env bash\necho accesses\n')
-    tally.equal('a program that is made', desk.ended(), (0, 'accesses\n', ''))
+    desk.kit('')
+    desk.has('echo accesses')
+    for gone in ((desk.program,), (desk.stamp,), (desk.program, desk.stamp)):
+        for path in gone:
+            path.unlink()
+        tally.equal('a program that is made', (desk.ended(), desk.asked()), ((0, 'accesses\n', ''), ANEW))
     (desk.tools / 'rt').unlink()
-    desk.has('printf %s "$SHEET"')
     tally.equal('no kit', desk.ended(), (2, '', 'sheet: the Rattle kit is needed: put its rt on the path\n'))
 
 
+def timed(ended):
+    """How the script ended, with how long each crate took apart from what it said."""
+    status, shown, said = ended
+    taken = [int(seconds) for seconds in re.findall(r'proved \((\d+) s\)$', said, re.MULTILINE)]
+    return status, shown, re.sub(r'(?m) \(\d+ s\)$', '', said), taken
+
+
 def check_progress(tally, desk):
-    """Each crate is told as it is proved; those that were proved before are counted."""
+    """Each crate is told as it is proved; of those that were proved before the kit says nothing."""
     desk.has('printf %s "$SHEET"')
-    desk.kit('', UNCHANGED.replace('(unchanged since it was last proved)', '(7 s)', 2))
-    told = 'sheet: 1 of 3: low proved (7 s)\nsheet: 2 of 3: middle proved (7 s)\n'
-    tally.equal('crates that are proved', desk.ended(), (0, edges.WORKED_SHEET, told))
-    desk.kit('sleep 4; echo "rt: low proved (unchanged since it was last proved)"; sleep 4; echo "rt: middle proved (4 s)"', '')
-    told = 'sheet: proving and building the program, 3 crates; this takes a few minutes\nsheet: 2 of 3: middle proved (4 s)\n'
-    tally.equal('a long check', desk.ended(), (0, edges.WORKED_SHEET, told))
+    desk.kit('', PROVED.format('low') + PROVED.format('middle') + UNCHANGED)
+    told = 'sheet: 1 of 3: low proved\nsheet: 2 of 3: middle proved\n'
+    tally.equal('crates that are proved', timed(desk.ended())[:3], (0, edges.WORKED_SHEET, told))
+    proof = 'sleep 4\ncat <<"SAYS"\n%sSAYS\n'
+    desk.kit(proof % PROVED.format('middle') + proof % PROVED.format('sheet'))
+    told = PROVING + 'sheet: 2 of 3: middle proved\nsheet: 3 of 3: sheet proved\n'
+    *ended, taken = timed(desk.ended())
+    tally.equal('a long check', tuple(ended), (0, edges.WORKED_SHEET, told))
+    tally.equal('how long it took', [4 <= seconds <= 7 for seconds in taken], [True, True])
+    for waits in ('waiting for another rt to finish in /somewhere', 'low: another copy is building this library; waiting for it'):
+        desk.kit('echo "rt: %s"; sleep 4' % waits)
+        tally.equal('a kit that waits', desk.ended(), (0, edges.WORKED_SHEET, 'sheet: %s\n' % waits))
+        desk.kit('echo "rt: %s"' % waits)
+        tally.equal('a kit that waits a moment', desk.ended(), (0, edges.WORKED_SHEET, ''))
 
 
 def check_together(tally, desk):
@@ -155,40 +209,74 @@ def check_together(tally, desk):
 
 def check_unwritable(tally, desk):
     """Where nothing can be written down, nothing is believed of what lies there."""
-    target = desk.root / 'target'
+    out = desk.program.parent
     somebody = {'user': 65534, 'group': 65534} if os.geteuid() == 0 else {}
-    for place in (desk.root.parent, desk.root, target, target / 'log', target / 'stamp'):
+    for place in (desk.root.parent, desk.root, desk.crate, out):
         place.chmod(0o777)
-    tally.equal('folders that can be written', desk.ended(**somebody), (0, edges.WORKED_SHEET, ''))
-    for place in (target / 'log', target / 'stamp', target):
-        place.chmod(0o555)
-        said = 'sheet: nothing can be proved here: %s cannot be written\n' % place
-        tally.equal('%s cannot be written' % place.name, desk.ended(**somebody), (2, '', said))
-        place.chmod(0o777)
+    tally.equal('a folder that can be written', desk.ended(**somebody), (0, edges.WORKED_SHEET, ''))
+    said = 'sheet: nothing can be proved here: %s cannot be written\n' % out
+    out.chmod(0o555)
+    tally.equal('a folder that cannot be written', desk.ended(**somebody), (2, '', said))
+    out.chmod(0o777)
+    shutil.rmtree(out)
+    desk.crate.chmod(0o555)
+    tally.equal('a folder that cannot be made', desk.ended(**somebody), (2, '', said))
+
+
+def linked(one, other):
+    """A second name for a file of a library, or a copy: the kit removes such a file before it makes it anew."""
+    try:
+        os.link(one, other)
+    except OSError:
+        shutil.copy2(one, other)
+
+
+def copied(root):
+    """The sources, with what is proved of the crates below the program, and the program as it was made of them."""
+    made = kit.program('sheet').parent
+    shutil.copytree(kit.ROOT / 'crates', root / 'crates', ignore=shutil.ignore_patterns('out'))
+    shutil.copy(kit.ROOT / 'crates.txt', root)
+    for crate in root.glob('crates/*'):
+        library = kit.ROOT / 'crates' / crate.name / 'out' / 'rlib'
+        if library.is_dir():
+            shutil.copytree(library, crate / 'out' / 'rlib', copy_function=linked)
+    out = root / 'crates' / 'sheet' / 'out'
+    out.mkdir(exist_ok=True)
+    for name in ('sheet', 'sheet.stamp'):
+        shutil.copy2(made / name, out)
+    return out / 'sheet'
+
+
+def changed(text, old, new):
+    if text.count(old) != 1:
+        raise ValueError('%s is not once in the program' % old)
+    return text.replace(old, new)
 
 
 def check_sources(tally, desk):
     """The real kit, on a copy of the sources that changes, with what is proved of the crates below."""
-    root, target, script = desk.root.parent / 'sources', kit.ROOT / 'target', desk.root / 'sheet'
-    shutil.copytree(kit.ROOT / 'crates', root / 'crates')
-    (root / 'target' / 'log').mkdir(parents=True)
-    for part in ('bin', 'stamp'):
-        shutil.copytree(target / part, root / 'target' / part)
-    (root / 'target' / 'rlib').symlink_to(target / 'rlib')
-    shutil.copy(kit.ROOT / 'crates.txt', root)
-    shutil.copy(script, root / 'sheet')
-    source = root / 'crates' / 'sheet' / 'src' / 'main.rt'
+    root = desk.root.parent / 'sources'
+    program, source, script = copied(root), root / 'crates' / 'sheet' / 'src' / 'main.rt', [root / 'sheet']
+    shutil.copy(desk.root / 'sheet', root)
     text = source.read_text()
-    tally.equal('sources as they were', edges.ended([root / 'sheet'], given=edges.WORKED), (0, edges.WORKED_SHEET, ''))
-    source.write_text(text.replace('b"sheet: standard input"', 'b"sheet: the input"'))
-    status, shown, said = edges.ended([root / 'sheet'], '</')
-    words = said.split('\n')
-    last = re.match(r'sheet: (\d+) of \1: sheet proved \(', words[-4]) is not None
-    tally.equal('changed sources', (status, shown, last, words[-3]),
-                (2, '', True, 'sheet: the input: Is a directory'))
-    source.write_text(text.replace('LONGEST_SHEET: usize = 32768', 'LONGEST_SHEET: usize = 32767'))
-    status, shown, said = edges.ended([root / 'sheet'], given=edges.WORKED)
-    tally.equal('sources that are not proved', (status, shown, 'rt: sheet NOT PROVED' in said), (2, '', True))
+    tally.equal('sources as they were', edges.ended(script, given=edges.WORKED), (0, edges.WORKED_SHEET, ''))
+    script_file(program, '#!/usr/bin/env bash\necho another\n')
+    status, shown, said = edges.ended(script, given=edges.WORKED, timeout=PROOF)
+    tally.equal('another program', (status, shown, last_crate(said)), (0, edges.WORKED_SHEET, 'sheet'))
+    source.write_text(changed(text, *OTHER_WORDS))
+    status, shown, said = edges.ended(script, '</', timeout=PROOF)
+    told = said.removesuffix(SAID)
+    tally.equal('changed sources', (status, shown, last_crate(told), told.split('\n')[-2]), (2, '', 'sheet', OTHER_SAID))
+    source.write_text(changed(text, *LESS_ROOM))
+    status, shown, said = edges.ended(script, given=edges.WORKED, timeout=PROOF)
+    told = (status, shown, UNPROVED in said, re.search('^fn sheet::sheet_of: no', said, re.MULTILINE) is not None)
+    tally.equal('sources that are not proved', told, (2, '', True, True))
+
+
+def last_crate(said):
+    """The crate that was told to be proved as the last of all, or None."""
+    return next((name for one, all_of_them, name in re.findall(r'^sheet: (\d+) of (\d+): (\w+) proved \(', said, re.MULTILINE)
+                 if one == all_of_them), None)
 
 
 CHECKS = {'programs': check_programs, 'staleness': check_staleness, 'progress': check_progress,

@@ -5,6 +5,7 @@
 Also the whole way round: a text made into a trace by tools/trace gives the sheet of that trace, and what the proved
 reader refuses is refused by the tool with the same number and place.
 """
+import os
 import random
 import subprocess
 import sys
@@ -104,4 +105,4 @@ def main(program='sheet'):
 
 
 if __name__ == '__main__':
-    sys.exit(main(*sys.argv[1:2]))
+    sys.exit(main(*map(os.path.abspath, sys.argv[1:2])))

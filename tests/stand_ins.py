@@ -5,11 +5,15 @@
 With names only those are tried. A suite notices by a sum with failures in its last line. Where it comes to no sum, it
 has noticed nothing: a stand-in that cannot be made, or that brings the suite down, counts as failed here."""
 import concurrent.futures
+import contextlib
+import functools
 import os
 import pathlib
 import re
 import subprocess
 import sys
+import tempfile
+import threading
 import typing
 
 import boundary
@@ -18,8 +22,9 @@ import compare
 import kit
 
 HERE = pathlib.Path(__file__).resolve().parent
-BUILT = kit.ROOT / 'target' / 'stand_ins'
 PATIENCE = 400  # seconds: a suite that takes longer hangs
+# a suite that runs the real script waits for others that prove, and would tell that it waits
+ONE_AT_A_TIME = threading.Lock()
 LIBRARY, PROGRAM = HERE / 'stand_ins' / 'library', HERE / 'stand_ins' / 'program' / 'sheet.c'
 
 
@@ -42,10 +47,7 @@ def library(name, folder):
     options = [*boundary.FLAGS, '-I', boundary.HERE, '-DFAULT=' + name]
     units = [c_tools.compiled(source, folder / (source.stem + '.o'), *options) for source in LIBRARY.glob('*.c')]
     units += [boundary.unit('check', boundary.HERE / source) for source in ('format.c', 'rule.c')]
-    archive = folder / 'libsupharoek.a'
-    archive.unlink(missing_ok=True)
-    subprocess.run([c_tools.TOOLS / 'llvm-ar', 'rcs', archive, *units], check=True)
-    return archive
+    return c_tools.archived(folder / 'libsupharoek.a', *units)
 
 
 def libraries():
@@ -73,8 +75,7 @@ def edited(original, changes):
             if text.count(old) != 1:
                 raise ValueError('%s is not once in %s' % (old, original.name))
             text = text.replace(old, new)
-        for part in ('crates', 'crates.txt', 'target'):
-            (folder / part).unlink(missing_ok=True)
+        for part in ('crates', 'crates.txt'):
             (folder / part).symlink_to(kit.ROOT / part)
         (folder / original.name).write_text(text)
         (folder / original.name).chmod(0o755)
@@ -99,10 +100,11 @@ def stand_ins():
 
 def outcome(given, script, *options):
     """What a suite makes of what it is given: it passes, notices, or something is wrong with it."""
-    environment = dict(os.environ, UNTIL_FIRST='yes')
+    environment = dict(os.environ, UNTIL_FIRST='yes', MADE_BEFORE='sheet')
     try:
-        ran = subprocess.run([sys.executable, HERE / script, given, *options], env=environment, capture_output=True,
-                             text=True, timeout=PATIENCE)
+        with ONE_AT_A_TIME if script == 'script_edges.py' else contextlib.nullcontext():
+            ran = subprocess.run([sys.executable, HERE / script, given, *options], env=environment, capture_output=True,
+                                 text=True, timeout=PATIENCE)
     except subprocess.TimeoutExpired:
         return '%s hangs' % script
     counted = re.search(r'^(\d+) passed, (\d+) failed\n\Z', ran.stdout, re.MULTILINE)
@@ -113,10 +115,10 @@ def outcome(given, script, *options):
     return 'noticed' if int(counted[2]) > 0 else 'neither passed nor failed'
 
 
-def tried(stand_in):
+def tried(built, stand_in):
     """What became of a stand-in, in words: one is right, and the rest say what has to be mended."""
-    folder = BUILT / stand_in.name
-    folder.mkdir(parents=True, exist_ok=True)
+    folder = built / stand_in.name
+    folder.mkdir()
     try:
         given = stand_in.make(stand_in.name, folder)
     except (subprocess.CalledProcessError, ValueError) as fault:
@@ -135,9 +137,11 @@ def main(*names):
         raise SystemExit('there is no stand-in %s' % ' '.join(sorted(unknown)))
     chosen = [each for each in every if not names or each.name in names]
     boundary.UNITS.mkdir(parents=True, exist_ok=True)
+    kit.program('sheet')
     tally = compare.Tally()
-    with concurrent.futures.ThreadPoolExecutor(os.cpu_count()) as pool:
-        for each, found in zip(chosen, pool.map(tried, chosen)):
+    # outside the repository, where `rt` takes no links to its folders
+    with tempfile.TemporaryDirectory() as built, concurrent.futures.ThreadPoolExecutor(os.cpu_count()) as pool:
+        for each, found in zip(chosen, pool.map(functools.partial(tried, pathlib.Path(built)), chosen)):
             tally.equal('%s: %s' % (each.name, each.words), found, 'noticed' if each.faulty else 'passed')
     return tally.end()
 

@@ -9,7 +9,8 @@ import compare
 import trace_format as form
 
 ROOM = 12
-CALL = re.compile(r'^    (number|number_at|header|record|write_header|write_record)\((.*)\);$')
+# a call with what it is told of, after the handle by which it prints; the last of a function is what that answers
+CALL = re.compile(r'^    (number|number_at|header|record|write_header|write_record)\(rt, (.*)\)(?:\?;)?$')
 
 
 def hexed(data):
@@ -69,7 +70,7 @@ def line(call, arguments):
 
 
 source = (compare.CRATES / 'trace_test' / 'src' / 'main.rt').read_text()
-cases = source[source.index('\nfn numbers() {'):]
+cases = source[source.index('\nfn numbers('):]
 calls = [found.groups() for found in map(CALL.match, cases.split('\n')) if found]
 tally = compare.Tally()
 tally.lines([line(*call) for call in calls], 'trace_test')
