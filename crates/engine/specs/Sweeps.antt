@@ -74,7 +74,7 @@ pub record AllReady (read : RowRead) (area list scratch : List ℕ) (changes : C
 -- and what a read is told with: a size, a priority and a place in their ranges, and room for all rows and two lists
 pub record RenewReady (area list scratch : List ℕ) (n p j : ℕ) : Type 0 where
   pub some : 1 ≤ n
-  pub in_range_lem : n ≤ size.largest
+  pub in_range : n ≤ size.largest
   pub read_at : 1 ≤ p
   pub within : j ≤ n
   pub put_in : j ≡ 0 → p ≤ n

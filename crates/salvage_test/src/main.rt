@@ -5,25 +5,28 @@
 // The list is printed entry by entry, as it is made, and not lent: tests/boundary lends one from C.
 #![tactic(auto)]
 
-ghost use Rattle.std.specs.Prelude.{◌<◌, ◌≤◌, length};
+ghost use Rattle.std.specs.Prelude.{◌<◌, ◌≤◌, length, IfOk};
 
-use libc::STDOUT_FILENO;
 use salvage::good::Kept;
 use salvage::{Entry, Salvaged};
+use std::io;
+use std::io::Read;
 use terms::Refusal;
 
-fn say(text: &[u8]) {
-    io::write_all(STDOUT_FILENO, text);
+// No more of the input is read.
+const LARGEST_INPUT: u64 = 65536;
+
+fn say(rt: &impl Print, text: &[u8]) -> io::Result<()> {
+    rt.write_all(text)
 }
 
-fn say_number(text: &[u8], n: u64) {
-    say(text);
-    io::print_decimal(STDOUT_FILENO, n);
+fn say_number(rt: &impl Print, text: &[u8], n: u64) -> io::Result<()> {
+    say(rt, text)?;
+    print!(rt; "{n}")
 }
 
-fn say_byte(byte: u8) {
-    say(b" ");
-    io::print_hex(STDOUT_FILENO, byte as u64, 2);
+fn say_byte(rt: &impl Print, byte: u8) -> io::Result<()> {
+    print!(rt; " {byte:02x}")
 }
 
 fn two_bytes(low: u8, high: u8) -> usize
@@ -41,12 +44,11 @@ fn least(a: usize, b: usize) -> usize
     b
 }
 
-fn say_bytes(bytes: &[u8]) {
-    let mut i = 0;
-    while i < bytes.len() {
-        say_byte(bytes[i]);
-        i += 1;
+fn say_bytes(rt: &impl Print, bytes: &[u8]) -> io::Result<()> {
+    for byte in bytes {
+        say_byte(rt, *byte)?;
     }
+    Ok(())
 }
 
 // How many bytes there are up to the last one that is not the byte that filled the output.
@@ -63,45 +65,52 @@ fn changed_bytes(out: &[u8], filled: u8) -> usize {
 }
 
 // The bytes up to there tell all of the output: every one after them is as it was filled.
-fn say_written(out: &[u8], filled: u8) {
+fn say_written(rt: &impl Print, out: &[u8], filled: u8) -> io::Result<()> {
     let changed = changed_bytes(out, filled);
     if changed <= out.len() {
-        say_bytes(&out[..changed]);
+        say_bytes(rt, &out[..changed])?;
     }
+    Ok(())
 }
 
-fn say_answer(answer: Salvaged) {
+fn say_answer(rt: &impl Print, answer: Salvaged) -> io::Result<()> {
     match answer {
         Salvaged::Written { bytes, entries } => {
-            say_number(b"done ", bytes as u64);
-            say_number(b" ", entries as u64);
+            say_number(rt, b"done ", bytes as u64)?;
+            say_number(rt, b" ", entries as u64)?;
         }
         Salvaged::Refused(refusal, place) => {
-            say_number(b"refused ", terms::refusal_number(refusal) as u64);
-            say_number(b" at ", place as u64);
+            say_number(rt, b"refused ", terms::refusal_number(refusal) as u64)?;
+            say_number(rt, b" at ", place as u64)?;
         }
         Salvaged::Short => {
-            say_number(b"refused ", terms::refusal_number(Refusal::Space) as u64);
+            say_number(
+                rt,
+                b"refused ",
+                terms::refusal_number(Refusal::Space) as u64,
+            )?;
         }
     }
+    Ok(())
 }
 
-fn say_entry(entry: Entry) {
-    say_number(b" ", entry.offset);
-    say_number(b" ", entry.length);
-    say_number(b" ", entry.number);
+fn say_entry(rt: &impl Print, entry: Entry) -> io::Result<()> {
+    say_number(rt, b" ", entry.offset)?;
+    say_number(rt, b" ", entry.length)?;
+    say_number(rt, b" ", entry.number)
 }
 
 // So many entries from a place of the trace on.
-fn say_entries(trace: &[u8], start: usize, entries: usize) {
+fn say_entries(rt: &impl Print, trace: &[u8], start: usize, entries: usize) -> io::Result<()> {
     let mut at = start;
     let mut said = 0;
     while said < entries {
         let next = salvage::listing::next_entry(trace, at);
-        say_entry(next.entry);
+        say_entry(rt, next.entry)?;
         at = next.at;
         said += 1;
     }
+    Ok(())
 }
 
 // The salvage into the lent part of the output.
@@ -110,50 +119,55 @@ fn keep_in(trace: &[u8], out: &mut [u8], space: usize, room: usize) -> Kept {
     salvage::good::keep_bytes(trace, &mut out[..lent], room)
 }
 
-fn run_case(trace: &[u8], space: usize, room: usize, filled: u8) {
+fn run_case(
+    rt: &impl Print,
+    trace: &[u8],
+    space: usize,
+    room: usize,
+    filled: u8,
+) -> io::Result<()> {
     let mut out = [filled; 320];
     let kept = keep_in(trace, &mut out, space, room);
     let answer = kept.answer;
-    say_answer(answer);
-    say(b" good");
-    say_written(&out, filled);
-    say(b" list");
-    say_entries(trace, kept.start, kept.entries);
-    say(b"\n");
+    say_answer(rt, answer)?;
+    say(rt, b" good")?;
+    say_written(rt, &out, filled)?;
+    say(rt, b" list")?;
+    say_entries(rt, trace, kept.start, kept.entries)?;
+    say(rt, b"\n")
 }
 
 // The case at the front of the bytes; answers how many bytes it takes, 0 where there is none.
-fn next_case(bytes: &[u8]) -> usize
-    ensures { result ≤ length bytes.now }
+fn next_case(rt: &impl Print, bytes: &[u8]) -> io::Result<usize>
+    ensures { IfOk result (λ taken. taken ≤ length bytes.now) }
 {
     if bytes.len() < 7 {
-        return 0;
+        return Ok(0);
     }
     let end = 7 + two_bytes(bytes[0], bytes[1]);
     if bytes.len() < end {
-        return 0;
+        return Ok(0);
     }
     let space = two_bytes(bytes[2], bytes[3]);
     let room = two_bytes(bytes[4], bytes[5]);
-    run_case(&bytes[7..end], space, room, bytes[6]);
-    end
+    run_case(rt, &bytes[7..end], space, room, bytes[6])?;
+    Ok(end)
 }
 
-fn cases(bytes: &[u8]) {
+fn cases(rt: &impl Print, bytes: &[u8]) -> io::Result<()> {
     let mut at = 0;
     while at < bytes.len() {
-        let taken = next_case(&bytes[at..]);
+        let taken = next_case(rt, &bytes[at..])?;
         if taken == 0 {
-            return;
+            return Ok(());
         }
         at += taken;
     }
+    Ok(())
 }
 
-fn main() {
-    let mut bytes = io::large_buffer();
-    let n = io::read_full(0, &mut bytes);
-    if n <= 65536 {
-        cases(&bytes[..n]);
-    }
+fn main(rt: HostRuntime) -> io::Result<()> {
+    let mut bytes = Vec::new(rt.alloc());
+    rt.reader().take(LARGEST_INPUT).read_to_end(&mut bytes)?;
+    cases(&rt, bytes.as_slice())
 }

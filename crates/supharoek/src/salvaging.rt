@@ -26,7 +26,7 @@ fn tell_salvaged(out: &mut [u64], salvaged: Salvaged) -> u32
 }
 
 // Salvages a trace into a good one and a list of what was left out: the bytes and the entries written; or the place of the
-// refusal of the header. The list is lent as structs, so this call is proved by hand; it only calls and tells.
+// refusal of the header. It only calls and tells.
 #[unsafe(no_mangle)]
 pub extern "C" fn supharoek_salvage(
     trace: &[u8],

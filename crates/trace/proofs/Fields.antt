@@ -1,11 +1,11 @@
 -- Laws of one field: a number that is read from a place on, tested, and gone on from. They hold of every range and of whatever follows.
 use mathlib.Core.Path.{◌≡◌, sym, ap, subst, ◌∙◌}
 use mathlib.Core.List.{List}
-use mathlib.Core.Bool.{Bool, true, false, not}
+use mathlib.Core.Bool.{Bool, true, false}
 use Prim.Native.Nat.{ℕ, suc, ◌+◌, ◌-◌, ◌≤◌, ◌<◌}
 use native.Mathlib.Omega.{arith}
 use lib.ListN.{length, drop, length-drop}
-use borrow.Author.Tests.{le-leb, not-true, not-false}
+use borrow.Author.Tests.{le-leb}
 use mir.Val.{Fits}
 use mir.Syntax.{w64}
 use Rattle.terms.specs.declared.Refusal.{Refusal}
@@ -13,7 +13,7 @@ use Rattle.terms.specs.Refusals.{number_of}
 use Rattle.terms.specs.Ranges.{Range, in_range, block}
 use Rattle.trace.specs.declared.number.Number.{Number}
 use Rattle.trace.specs.declared.number.Number.TheVariants as the_number
-use Rattle.trace.specs.Number.{Value, number_at, top_byte, bytes_before, fault_of}
+use Rattle.trace.specs.Number.{number_at, top_byte, bytes_before, fault_of}
 use Rattle.trace.specs.Reading.{Reading, Refused, field}
 use Rattle.trace.specs.Answers.{number_answer}
 use Rattle.trace.specs.Bounds.{number_limit}
@@ -56,11 +56,11 @@ module _ {A : Type 0} (range : Range) (s : List ℕ) (at : ℕ) (next : ℕ → 
   no_number refusal why g f = rw (f, ← e, g)
 
   module _ (v n : ℕ) (g : a ≡ the_number.Value v n) where
-    pub out_of_range : (t : Bool) → t ≡ in_range range v → not t ≡ true → Refused (number_of range.refusal) at ≡ field range s at next
-    out_of_range t f h = rw (← e, g, ← f, not-true t h)
+    pub out_of_range : (t : Bool) → t ≡ in_range range v → t ≡ false → Refused (number_of range.refusal) at ≡ field range s at next
+    out_of_range t f h = rw (← e, g, ← f, h)
 
     pub goes_on : in_range range v ≡ true → field range s at next ≡ next v (at + n)
     goes_on h = rw (← e, g, h)
 
-    pub passes : (t : Bool) → t ≡ in_range range v → not t ≡ false → field range s at next ≡ next v (at + n)
-    passes t f h = goes_on (sym f ∙ not-false t h)
+    pub passes : (t : Bool) → t ≡ in_range range v → t ≡ true → field range s at next ≡ next v (at + n)
+    passes t f h = goes_on (sym f ∙ h)

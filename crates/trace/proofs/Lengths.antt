@@ -7,7 +7,7 @@ use native.Mathlib.Omega.{arith}
 use lib.ListN.{length, length-append}
 use lib.Dec.{ltb}
 use borrow.Author.Tests.{ltb-false, le-ltb}
-use Rattle.terms.specs.Ranges.{Range, in_range, edition, size_up_to, size, volume, block, priority}
+use Rattle.terms.specs.Ranges.{Range, in_range, edition, size_up_to, size, volume, block, priority, volume_up_to, priority_up_to}
 use Rattle.terms.specs.Reads.{Read, read_of, ReadOk}
 use Rattle.trace.specs.Number.{Value, number_at, bytes_before}
 use Rattle.trace.specs.Reading.{Given, Header, header_of, header_at, Placed, placed_in, placed_at, formed_at, record_at}
@@ -106,9 +106,9 @@ record_given s at =
 formed_given : (s : List ℕ) (at : ℕ) → Gives (λ r end. at + 3 ≤ end) (formed_at s at)
 unfolding formed_at placed_in
 formed_given s at =
-    gives_field _ _ s at _
-    (λ v n₁ e₁ r₁. gives_field _ block s (at + n₁) _
-    (λ b n₂ e₂ r₂. gives_field _ _ s (at + n₁ + n₂) _
+    gives_field (λ r end. at + 3 ≤ end) (volume_up_to block.largest) s at _
+    (λ v n₁ e₁ r₁. gives_field (λ r end. at + 3 ≤ end) block s (at + n₁) _
+    (λ b n₂ e₂ r₂. gives_field (λ r end. at + 3 ≤ end) (priority_up_to block.largest) s (at + n₁ + n₂) _
     (λ p n₃ e₃ r₃. omega (arith, number_short s at v n₁ e₁, number_short s (at + n₁) b n₂ e₂, number_short s (at + n₁ + n₂) p n₃ e₃))))
   where
     number_short : (s : List ℕ) (at v n : ℕ) → number_at s at ≡ Value v n → 1 ≤ n

@@ -1,6 +1,5 @@
 -- The ways out of the functions on counts, each from what was tested, for `search`.
 use mathlib.Core.Path.{◌≡◌, refl, sym}
-use mathlib.Core.Logic.{◌≢◌}
 use mathlib.Core.Bool.{true, false}
 use mathlib.Core.List.{List, [], ◌∷◌}
 use Prim.Native.Nat.{ℕ, ◌+◌, ◌≤◌, ◌<◌}
@@ -10,14 +9,10 @@ use Rattle.terms.specs.declared.Refusal.TheVariants as the_refusal
 use Rattle.card.specs.Counts.{is_hit, slot_of, counts_lent, largest_count, counting_of, counts_after}
 use Rattle.card.specs.declared.counting.Counted.TheVariants as the_counted
 use Rattle.card.specs.Answers.{counted_answer}
-use Rattle.card.proofs.OutcomeCases.{past_six}
 
 -- ---- a number that is none of the six
 
-module _ (o : ℕ) (n₀ : o ≢ 0) (n₁ : o ≢ 1) (n₂ : o ≢ 2) (n₃ : o ≢ 3) (n₄ : o ≢ 4) (n₅ : o ≢ 5) where
-  past : 6 ≤ o
-  past = past_six o n₀ n₁ n₂ n₃ n₄ n₅
-
+module _ (o : ℕ) (past : 6 ≤ o) where
   pub no_hit : false ≡ is_hit o
   unfolding is_hit
   no_hit = sym (get_or-eq_default (true ∷ true ∷ true ∷ true ∷ false ∷ false ∷ []) false past)

@@ -1,11 +1,10 @@
 -- The tests of a state, each from what was tested and what the callees said.
 use mathlib.Core.Path.{◌≡◌, refl, sym, ap, ap₂, ◌∙◌}
-use mathlib.Core.Bool.{Bool, true, false, not, ◌&&◌}
+use mathlib.Core.Bool.{Bool, true, false, ◌&&◌}
 use mathlib.Core.List.{List, [], ◌∷◌}
 use Prim.Native.Nat.{ℕ, ◌-◌, ◌≤◌, ◌<◌}
 use native.Mathlib.Omega.{arith}
 use lib.ListN.{length, take, drop}
-use borrow.Author.Tests.{not-true, not-false}
 use borrow.Author.Rules.{part_to_end}
 use Rattle.terms.specs.Ranges.{in_range, size, volume, block}
 use Rattle.card.specs.Rule.{key_of}
@@ -34,31 +33,31 @@ keys_are c = ap (λ (most : ℕ). every (at_most most) c) (sym largest_key_lem)
 
 -- ---- the state
 
-pub size_low : (m : ℕ) (t : Bool) → t ≡ in_range size m → not t ≡ false → m ≤ size.largest
-size_low m t i o = (bounds size m (sym i ∙ not-false t o)).1
+pub size_low : (m : ℕ) (t : Bool) → t ≡ in_range size m → t ≡ true → m ≤ size.largest
+size_low m t i o = (bounds size m (sym i ∙ o)).1
 
 module _ (m : ℕ) (places : List ℕ) (t₁ : Bool) (i₁ : t₁ ≡ in_range size m) where
-  pub no_size : not t₁ ≡ true → false ≡ is_state m places
+  pub no_size : t₁ ≡ false → false ≡ is_state m places
   unfolding is_state
-  no_size h = rw (← i₁, not-true t₁ h)
+  no_size h = rw (← i₁, h)
 
-  module _ (o₁ : not t₁ ≡ false) where
+  module _ (o₁ : t₁ ≡ true) where
     module _ (t₂ : Bool) (i₂ : t₂ ≡ every (at_most 0) (take (length places - m) (drop m places))) where
       empties : t₂ ≡ every is_empty (drop m places)
       empties = i₂ ∙ ap (every (at_most 0)) (part_to_end places m) ∙ empties_are (drop m places)
 
-      pub past_full : not t₂ ≡ true → false ≡ is_state m places
+      pub past_full : t₂ ≡ false → false ≡ is_state m places
       unfolding is_state
-      past_full h = rw (← i₁, not-false t₁ o₁, ← empties, not-true t₂ h)
+      past_full h = rw (← i₁, o₁, ← empties, h)
 
-      module _ (o₂ : not t₂ ≡ false) (t₃ : Bool) (i₃ : t₃ ≡ every (at_most 281474976710656) places) where
+      module _ (o₂ : t₂ ≡ true) (t₃ : Bool) (i₃ : t₃ ≡ every (at_most 281474976710656) places) where
         keys : t₃ ≡ every is_key places
         keys = i₃ ∙ keys_are places
 
-        pub over_key : not t₃ ≡ true → false ≡ is_state m places
+        pub over_key : t₃ ≡ false → false ≡ is_state m places
         unfolding is_state
-        over_key h = rw (← i₁, not-false t₁ o₁, ← empties, not-false t₂ o₂, ← keys, not-true t₃ h)
+        over_key h = rw (← i₁, o₁, ← empties, o₂, ← keys, h)
 
-        pub apart_state : not t₃ ≡ false → (t₄ : Bool) → t₄ ≡ apart places → t₄ ≡ is_state m places
+        pub apart_state : t₃ ≡ true → (t₄ : Bool) → t₄ ≡ apart places → t₄ ≡ is_state m places
         unfolding is_state
-        apart_state h t₄ i₄ = rw (← i₁, not-false t₁ o₁, ← empties, not-false t₂ o₂, ← keys, not-false t₃ h) i₄
+        apart_state h t₄ i₄ = rw (← i₁, o₁, ← empties, o₂, ← keys, h) i₄

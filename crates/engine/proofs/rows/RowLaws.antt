@@ -103,8 +103,8 @@ pub kept_same : (area : List ℕ) (a w : ℕ) → Kept area area a w
 kept_same area a w = record { size = refl; below = λ x h. refl; above = λ x h. refl }
 
 -- What answers that it moved nothing wrote nothing.
-pub unmoved : {X : Type 0} (area : List ℕ) (a w : ℕ) → (Kept area area a w × (false ≡ false → area ≡ area)) × (false ≡ true → X)
-unmoved area a w = ((kept_same area a w, λ e. refl), never)
+pub unmoved : (area : List ℕ) (a w : ℕ) → Kept area area a w × (false ≡ false → area ≡ area)
+unmoved area a w = (kept_same area a w, λ e. refl)
 
 -- A block that is nowhere stays so.
 pub after_none : (J : ℕ → ℕ) (p : ℕ) (L : ℕ → ℕ) → 0 < p → ((m : ℕ) → L m ≡ 0) → (m : ℕ) → other_after J p L m ≡ 0

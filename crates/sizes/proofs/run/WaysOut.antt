@@ -1,12 +1,12 @@
 -- The ways out of the run, from the answer of the header reader, by those of every run.
 use mathlib.Core.Path.{◌≡◌, refl, sym, ap, subst, ◌∙◌}
 use mathlib.Core.List.{List, ◌++◌}
-use mathlib.Core.Bool.{Bool, true, false, not, ◌&&◌, cond}
+use mathlib.Core.Bool.{Bool, true, false, ◌&&◌, cond}
 use Prim.Native.Nat.{ℕ, ◌≤◌}
 use native.Mathlib.Omega.{arith}
 use lib.Dec.{leb}
 use lib.ListN.{length, drop, length-replicate}
-use borrow.Author.Tests.{leb-true, not-true, not-false}
+use borrow.Author.Tests.{leb-true}
 use Rattle.terms.specs.declared.Refusal.{Refusal}
 use Rattle.terms.specs.declared.Refusal.TheVariants.{Room}
 use Rattle.terms.specs.Refusals.{number_of}
@@ -87,18 +87,18 @@ module _ (s : List ℕ) (a : Header) (e : header_answer a ≡ header_at size.lar
       gate_by : (u : Bool) → t ≡ u → room_gate n areas ≡ shut_unless u
       gate_by u h = ap (λ (b : Bool). shut_unless b) (sym f ∙ h)
 
-      pub out_of_room : not t ≡ true → run_of s areas ≡ refused (number_of Room) 0 areas
-      out_of_room h = gate_shut (frame_of s) areas (header_of v n) l (given_header v n l g) (number_of Room) 0 (gate_by false (not-true t h))
+      pub out_of_room : t ≡ false → run_of s areas ≡ refused (number_of Room) 0 areas
+      out_of_room h = gate_shut (frame_of s) areas (header_of v n) l (given_header v n l g) (number_of Room) 0 (gate_by false h)
 
-      pub out_passed : not t ≡ false → run_of s areas ≡ record { answer = answer_after n (reads_from (length s) s l); areas = left_after n areas (reads_from (length s) s l) }
-      out_passed h = after_events (frame_of s) areas (header_of v n) l (given_header v n l g) (gate_by true (not-false t h)) (reads_from (length s) s l) refl
+      pub out_passed : t ≡ true → run_of s areas ≡ record { answer = answer_after n (reads_from (length s) s l); areas = left_after n areas (reads_from (length s) s l) }
+      out_passed h = after_events (frame_of s) areas (header_of v n) l (given_header v n l g) (gate_by true h) (reads_from (length s) s l) refl
 
 -- ---- room
 
 pub room_in : (n blocks stretches counts : ℕ) (t : Bool)
-    → t ≡ (leb n blocks && (leb (stretches_length n) stretches && leb (counts_length n) counts)) → not t ≡ false
+    → t ≡ (leb n blocks && (leb (stretches_length n) stretches && leb (counts_length n) counts)) → t ≡ true
     → (n ≤ blocks) × (stretches_length n ≤ stretches) × (counts_length n ≤ counts)
 room_in n blocks stretches counts t e h =
-    let one = and_both (leb n blocks) _ (sym e ∙ not-false t h) in
+    let one = and_both (leb n blocks) _ (sym e ∙ h) in
     let two = and_both (leb (stretches_length n) stretches) (leb (counts_length n) counts) one.1 in
     (leb-true n blocks one.0, leb-true (stretches_length n) stretches two.0, leb-true (counts_length n) counts two.1)

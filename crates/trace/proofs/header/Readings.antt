@@ -1,7 +1,7 @@
 -- The ways out of the reader of a header, each from what was tested and what the callees said, for `search`.
 use mathlib.Core.Path.{◌≡◌, ap, sym, ◌∙◌}
 use mathlib.Core.List.{List}
-use mathlib.Core.Bool.{Bool, true, false, not}
+use mathlib.Core.Bool.{Bool, true, false}
 use Prim.Native.Nat.{ℕ, ◌+◌}
 use native.Mathlib.Nat.{zero-add}
 use borrow.Author.Rules.{rules}
@@ -29,11 +29,11 @@ module _ (largest : ℕ) (s : List ℕ) (first : Number) (e₁ : number_answer f
   no_edition = no_number edition s 0 (edition_next largest s) first e₁
 
   module _ (v n : ℕ) (g₁ : first ≡ Value v n) (t₁ : Bool) (i₁ : t₁ ≡ in_range edition v) where
-    pub other_edition : not t₁ ≡ true → Refused (number_of Edition) 0 ≡ header_at largest s 0
+    pub other_edition : t₁ ≡ false → Refused (number_of Edition) 0 ≡ header_at largest s 0
     unfolding header_at edition
     other_edition h = out_of_range edition s 0 (edition_next largest s) first e₁ v n g₁ t₁ i₁ h
 
-    module _ (o₁ : not t₁ ≡ false) (second : Number) (e₂ : number_answer second ≡ number_at s n) where
+    module _ (o₁ : t₁ ≡ true) (second : Number) (e₂ : number_answer second ≡ number_at s n) where
       to_size : header_at largest s 0 ≡ field (size_up_to largest) s n (size_next v)
       unfolding header_at
       to_size = passes edition s 0 (edition_next largest s) first e₁ v n g₁ t₁ i₁ o₁ ∙ ap (edition_next largest s v) (zero-add n)
@@ -42,10 +42,10 @@ module _ (largest : ℕ) (s : List ℕ) (first : Number) (e₁ : number_answer f
       no_size refusal why g f = no_number (size_up_to largest) s n (size_next v) second e₂ refusal why g f ∙ sym to_size
 
       module _ (w m : ℕ) (g₂ : second ≡ Value w m) (t₂ : Bool) (i₂ : t₂ ≡ in_range (size_up_to largest) w) where
-        pub other_size : not t₂ ≡ true → Refused (number_of Size) n ≡ header_at largest s 0
+        pub other_size : t₂ ≡ false → Refused (number_of Size) n ≡ header_at largest s 0
         other_size h = out_of_range (size_up_to largest) s n (size_next v) second e₂ w m g₂ t₂ i₂ h ∙ sym to_size
 
-        pub header_read : not t₂ ≡ false → Given (header_of v w) (n + m) ≡ header_at largest s 0
+        pub header_read : t₂ ≡ true → Given (header_of v w) (n + m) ≡ header_at largest s 0
         header_read h = sym (to_size ∙ passes (size_up_to largest) s n (size_next v) second e₂ w m g₂ t₂ i₂ h)
 
 pub ruleset header_cases = (rules, no_edition, other_edition, no_size, other_size, header_read)

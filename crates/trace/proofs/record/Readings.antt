@@ -1,7 +1,7 @@
 -- The ways out of the reader of a record, each from what was tested and what the callees said, for `search`.
 use mathlib.Core.Path.{◌≡◌, ap, sym, ◌∙◌}
 use mathlib.Core.List.{List}
-use mathlib.Core.Bool.{Bool, true, false, not}
+use mathlib.Core.Bool.{Bool, true, false}
 use Prim.Native.Nat.{ℕ, ◌+◌}
 use native.Mathlib.Nat.{zero-add}
 use borrow.Author.Rules.{rules}
@@ -35,11 +35,11 @@ module _ (volumes priorities : ℕ) (s : List ℕ) (first : Number) (e₁ : numb
   no_volume = no_number (volume_up_to volumes) s 0 (volume_next priorities s) first e₁
 
   module _ (v n : ℕ) (g₁ : first ≡ Value v n) (t₁ : Bool) (i₁ : t₁ ≡ in_range (volume_up_to volumes) v) where
-    pub over_volume : not t₁ ≡ true → Refused (number_of Volume) 0 ≡ placed_in (volume_up_to volumes) (priority_up_to priorities) s 0
+    pub over_volume : t₁ ≡ false → Refused (number_of Volume) 0 ≡ placed_in (volume_up_to volumes) (priority_up_to priorities) s 0
     unfolding placed_in
     over_volume h = out_of_range (volume_up_to volumes) s 0 (volume_next priorities s) first e₁ v n g₁ t₁ i₁ h
 
-    module _ (o₁ : not t₁ ≡ false) (second : Number) (e₂ : number_answer second ≡ number_at s n) where
+    module _ (o₁ : t₁ ≡ true) (second : Number) (e₂ : number_answer second ≡ number_at s n) where
       to_block : placed_in (volume_up_to volumes) (priority_up_to priorities) s 0 ≡ field block s n (block_next priorities s v)
       unfolding placed_in
       to_block = passes (volume_up_to volumes) s 0 (volume_next priorities s) first e₁ v n g₁ t₁ i₁ o₁ ∙ ap (volume_next priorities s v) (zero-add n)
@@ -56,10 +56,10 @@ module _ (volumes priorities : ℕ) (s : List ℕ) (first : Number) (e₁ : numb
           no_priority refusal why g f = no_number (priority_up_to priorities) s (n + m) (priority_next v b (n + m)) third e₃ refusal why g f ∙ sym to_priority
 
           module _ (p k : ℕ) (g₃ : third ≡ Value p k) (t₃ : Bool) (i₃ : t₃ ≡ in_range (priority_up_to priorities) p) where
-            pub other_priority : not t₃ ≡ true → Refused (number_of Priority) (n + m) ≡ placed_in (volume_up_to volumes) (priority_up_to priorities) s 0
+            pub other_priority : t₃ ≡ false → Refused (number_of Priority) (n + m) ≡ placed_in (volume_up_to volumes) (priority_up_to priorities) s 0
             other_priority h = out_of_range (priority_up_to priorities) s (n + m) (priority_next v b (n + m)) third e₃ p k g₃ t₃ i₃ h ∙ sym to_priority
 
-            pub record_read : not t₃ ≡ false → Given (placed_of (read_of v b p) (n + m)) (n + m + k) ≡ placed_in (volume_up_to volumes) (priority_up_to priorities) s 0
+            pub record_read : t₃ ≡ true → Given (placed_of (read_of v b p) (n + m)) (n + m + k) ≡ placed_in (volume_up_to volumes) (priority_up_to priorities) s 0
             record_read h = sym (to_priority ∙ passes (priority_up_to priorities) s (n + m) (priority_next v b (n + m)) third e₃ p k g₃ t₃ i₃ h)
 
 pub ruleset record_cases = (rules, no_volume, over_volume, no_block, no_priority, other_priority, record_read)

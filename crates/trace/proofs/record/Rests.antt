@@ -1,10 +1,9 @@
 -- Where the rest after a record starts: as the reader of a record says, and within the part.
-use mathlib.Core.Path.{◌≡◌}
+use mathlib.Core.Path.{◌≡◌, refl}
 use mathlib.Core.List.{List}
 use Prim.Native.Nat.{ℕ, ◌≤◌}
 use native.Mathlib.Omega.{arith}
 use lib.ListN.{length}
-use Rattle.terms.specs.declared.Refusal.{Refusal}
 use Rattle.trace.specs.declared.record.Record.{Record}
 use Rattle.trace.specs.declared.record.Record.TheVariants as the_record
 use Rattle.trace.specs.Answers.{record_answer}
@@ -16,10 +15,18 @@ rest_within : (from room : ℕ) (r : Reading Read) → from ≤ room → Within 
 rest_within from room (Given r end) h g = g.1
 rest_within from room (Refused number place) h g = omega arith
 
+-- an answer that is no read
+abbrev NoRead : Record → Type 0
+NoRead a = (v b p place n : ℕ) → a ≡ the_record.Read v b p place n → ⊥
+
+none_read : (s : List ℕ) (a : Record) → record_answer a ≡ placed_at s 0 → NoRead a → rest_start (record_at s 0) ≡ 0
+unfolding record_at
+none_read s (the_record.Read v b p place n) e none = absurd (none v b p place n refl)
+none_read s (the_record.Refused refusal place) e none = rw (← e)
+
 module _ (s : List ℕ) (a : Record) (e : record_answer a ≡ placed_at s 0) where
-  pub rest_refused : (refusal : Refusal) (place : ℕ) → a ≡ the_record.Refused refusal place → rest_start (record_at s 0) ≡ 0
-  unfolding record_at
-  rest_refused refusal place g = rw (← e, g)
+  pub rest_refused : NoRead a → rest_start (record_at s 0) ≡ 0
+  rest_refused none = none_read s a e none
 
   pub rest_after : (v b p place n : ℕ) → a ≡ the_record.Read v b p place n → rest_start (record_at s 0) ≡ n
   unfolding record_at

@@ -1,4 +1,5 @@
 -- `card::counting::is_hit` meets its contract: each arm is an outcome, and the last is none. Assumes nothing.
+use native.Mathlib.Omega.{arith}
 use borrow.Author.Rules.{rules}
 use Rattle.card.specs.Counts.{is_hit}
 use Rattle.card.proofs.counting.Cases.{no_hit}
@@ -29,4 +30,4 @@ unfolding is_hit
 returns-in-5 c = search rules
 
 pub returns-in_default : goal.returns-in_default
-returns-in_default c = let rest = c.in_default.rest in no_hit _ rest.0.0.0.0.0.1 rest.0.0.0.0.1 rest.0.0.0.1 rest.0.0.1 rest.0.1 rest.1
+returns-in_default c = no_hit c.args.outcome (omega arith)

@@ -1,4 +1,5 @@
 -- `card::counting::slot_of` meets its contract: each arm is an outcome, and the last is none. Assumes nothing.
+use native.Mathlib.Omega.{arith}
 use borrow.Author.Rules.{rules}
 use Rattle.card.specs.Counts.{slot_of}
 use Rattle.card.proofs.counting.Cases.{no_slot}
@@ -29,4 +30,4 @@ unfolding slot_of
 returns-in-5 c = search rules
 
 pub returns-in_default : goal.returns-in_default
-returns-in_default c = let rest = c.in_default.rest in no_slot _ rest.0.0.0.0.0.1 rest.0.0.0.0.1 rest.0.0.0.1 rest.0.0.1 rest.0.1 rest.1
+returns-in_default c = no_slot c.args.outcome (omega arith)

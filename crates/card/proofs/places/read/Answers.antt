@@ -3,4 +3,4 @@ use Rattle.card.proofs.places.Cases.{read_is}
 use Rattle.card.proofs.places.read.Goals as goal
 
 pub returns : goal.returns
-returns c = read_is c.before.before.before.before.before.before.before.before.before.args{-?-}.card.now _ c.before.before.before.before.before.before.before.before.before.args{-?-}.key _ _ _ _ c.at_least_one-p.ensures c.place_of-j.ensures c.outcome_of-number.ensures c.move_from.ensures
+returns c = read_is c.args.card.now _ c.args.key _ _ _ _ c.at_least_one-p.ensures c.place_of-j.ensures c.outcome_of-number.ensures c.move_from.ensures

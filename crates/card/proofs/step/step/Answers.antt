@@ -1,7 +1,6 @@
 -- `card::step::step` meets its contract: each way out is a case of `step_of`. Assumes nothing.
 use mathlib.Core.Path.{◌≡◌, sym, ◌∙◌}
 use native.Mathlib.Omega.{arith}
-use borrow.Author.Tests.{not-false}
 use borrow.Author.Rules.{rules}
 use lib.ListN.{length}
 use Rattle.terms.specs.Ranges.{size}
@@ -11,7 +10,7 @@ use Rattle.card.proofs.step.step.Goals as goal
 pub is_state-requires : goal.is_state-requires
 unfolding size
 is_state-requires c =
-    let long : length c.before.before.before.args{-?-}.t1.places ≡ size.largest = search rules in
+    let long : length c.args.card.places ≡ size.largest = search rules in
     omega arith
 
 pub returns-then-not-is_state : goal.returns-then-not-is_state
@@ -26,9 +25,9 @@ returns-then-not-is_priority c = search no_priority
 pub read_front-outcome-requires : goal.read_front-outcome-requires
 unfolding size
 read_front-outcome-requires c =
-    let card = c.before.before.before.before.before.before.before.before.before.before.before.args{-?-}.t1 in
+    let card = c.args.card in
     let long : length card.places ≡ size.largest = search rules in
-    omega (arith, state_size card.size card.places (sym c.is_state.ensures ∙ not-false _ c.if-not-is_state.false))
+    omega (arith, state_size card.size card.places (sym c.is_state.ensures ∙ c.if-not-is_state.false))
 
 pub returns : goal.returns
 returns c = search stepped

@@ -11,8 +11,7 @@ bump-requires c =
 
 pub bump-requires-then-p-first : goal.bump-requires-then-p-first
 bump-requires-then-p-first c =
-    let first = c in
-    record { some = search rules; column = search rules; room = room_left 1 first.before.before.before.before.requires.room (omega arith) (search rules) first.bump.ensures.1 }
+    record { some = search rules; column = search rules; room = room_left 1 c.requires.room (omega arith) (search rules) c.bump.ensures.small }
 
 pub returns-then-p-first : goal.returns-then-p-first
 returns-then-p-first c =
@@ -27,8 +26,7 @@ bump-requires-2 c =
 
 pub bump-requires-3 : goal.bump-requires-3
 bump-requires-3 c =
-    let first = c in
-    record { some = search rules; column = search rules; room = room_left 1 first.before.before.before.before.requires.room (omega arith) (search rules) first.bump3.ensures.1 }
+    record { some = search rules; column = search rules; room = room_left 1 c.requires.room (omega arith) (search rules) c.bump-2.ensures.small }
 
 pub returns : goal.returns
 returns c =

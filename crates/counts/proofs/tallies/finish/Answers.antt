@@ -7,25 +7,14 @@ pub loop-m-init : goal.loop-m-init
 loop-m-init c = search none_counted
 
 pub add_size-requires : goal.add_size-requires
-add_size-requires c =
-    let loop = c.loop-m in
-    let start = c in
-    add_ready _ _ _ start.requires _ _ _ loop.invariant (omega arith) (omega arith)
+add_size-requires c = add_ready _ _ _ c.requires _ _ _ c.loop-m.invariant (omega arith) (omega arith)
 
 pub write_size-requires : goal.write_size-requires
-write_size-requires c =
-    let added = c in
-    let loop = added.before.before.before.before.loop in
-    let start = added.before.before.before.before.before.before in
-    write_ready _ _ _ start.requires _ _ _ loop.invariant (omega arith) _ added.add-size.ensures added.add-size.auto.0
+write_size-requires c = write_ready _ _ _ c.requires _ _ _ c.loop-m.invariant (omega arith) _ c.add_size.ensures c.add_size.auto.sums
 
 pub loop-m-preserved : goal.loop-m-preserved
 loop-m-preserved c =
-    let wrote = c in
-    let added = wrote.before.before.before.before in
-    let loop = added.before.before.before.before.loop in
-    let start = added.before.before.before.before.before.before in
-    turn _ _ _ start.requires _ _ _ loop.invariant (omega arith) _ added.add-size.ensures _ added.add-size.auto.0 wrote.write-size.auto.0 wrote.write-size.ensures
+    turn _ _ _ c.requires _ _ _ c.loop-m.invariant (omega arith) _ c.add_size.ensures _ c.add_size.auto.sums c.write_size.auto.counts c.write_size.ensures
 
 pub returns : goal.returns
 returns c = all_counted _ _ _ c.requires _ _ _ c.loop-m.invariant c.loop-m-test.false

@@ -7,34 +7,25 @@ use Rattle.counts.proofs.tallies.tally.Goals as goal
 
 pub bump-requires : goal.bump-requires
 bump-requires c =
-    let begun = c in
-    record { some = search rules; column = search rules; room = room_left 2 begun.before.before.before.requires.room (omega arith) (search rules) begun.begin.ensures.1 }
+    record { some = search rules; column = search rules; room = room_left 2 c.requires.room (omega arith) (search rules) c.begin.ensures.small }
 
 pub bump-requires-2 : goal.bump-requires-2
 bump-requires-2 c =
-    let marked = c in
-    let begun = marked.before.before.before.before.before in
-    record { some = search rules; column = search rules; room = room_left 3 begun.before.before.before.requires.room (omega arith) (search rules) (λ x. omega (arith, begun.begin.ensures.1 x, marked.bump.ensures.1 x)) }
+    record { some = search rules; column = search rules; room = room_left 3 c.requires.room (omega arith) (search rules) (λ x. omega (arith, c.begin.ensures.small x, c.bump.ensures.small x)) }
 
 pub returns : goal.returns
 returns c =
-    let ended = c in
-    let last = ended.before in
-    let marked = last.before.before.before.before in
-    let later = marked.before in
-    let begun = later.before.before.before.before in
-    let start = begun.before.before.before in
-    let a = start.args in
-    let steps : Steps a.counts.now begun.begin.new.0 marked.bump.new.0 ended.bump2.new.0 a.n a.first later.larger.result last.larger2.result a.p = record {
-      long = start.requires.room.long;
-      some = start.requires.some;
-      least = start.requires.least;
-      one = omega (arith, later.larger.ensures);
-      two = omega (arith, last.larger2.ensures);
-      begins = begun.begin.ensures.0;
-      marks = marked.bump.ensures.0;
-      ends = ended.bump2.ensures.0;
+    let a = c.args in
+    let steps : Steps a.counts.now c.begin.new.counts c.bump.new.counts c.bump-2.new.counts a.n a.first c.larger.result c.larger-2.result a.p = record {
+      long = c.requires.room.long;
+      some = c.requires.some;
+      least = c.requires.least;
+      one = omega (arith, c.larger.ensures);
+      two = omega (arith, c.larger-2.ensures);
+      begins = c.begin.ensures.exact;
+      marks = c.bump.ensures.exact;
+      ends = c.bump-2.ensures.exact;
     } in record {
-      tallied = (λ J fall parts. read_tallied steps J a.reached a.above fall parts later.larger.ensures last.larger2.ensures);
+      tallied = (λ J fall parts. read_tallied steps J a.reached a.above fall parts c.larger.ensures c.larger-2.ensures);
       small = read_small steps;
     }

@@ -54,8 +54,8 @@ loop-t-preserved c =
 
 pub returns : goal.returns
 returns c = record {
-      range = omega (arith, c.loop-t.invariant.2, c.loop-t.invariant.3);
-      merged = λ J L gj gl hd hb ends fits.
+  range = omega (arith, c.loop-t.invariant.2, c.loop-t.invariant.3);
+  merged = λ J L gj gl hd hb ends fits.
       let at = c.args in
       let lp = c.loop-t in
       let fi = c.fill in
@@ -63,4 +63,4 @@ returns c = record {
       let e : lp.t ≡ at.n = omega (arith, st.within, c.loop-t-test.false) in
       let w = subst (λ (z : ℕ). ListedUpTo lp.out lp.q (other_after J at.p L) z) e st.done in
       (w.count, holds_all lp.out fi.new.out lp.q (other_after J at.p L) at.n w fi.ensures.0 (fi.ensures.1 (λ x y hq hy z. lp.invariant.4 y (omega arith) ∙ ends x y (omega arith) hy (sym (lp.invariant.4 x hq) ∙ z))));
-    }
+}

@@ -23,7 +23,7 @@ renew_all-changes-requires c =
     let moves = c.is_bypass.ensures.1 c.if-is_bypass.false in
     record {
       some = areas.some;
-      in_range_lem = areas.within;
+      in_range = areas.within;
       read_at = pre.somewhere;
       within = omega (arith, there, (places_fall rs start.args.key pre.keyed).fits start.args.n);
       put_in = moves;

@@ -8,37 +8,34 @@ use Rattle.engine.proofs.reads.read.Goals as goal
 
 pub find-j-requires : goal.find-j-requires
 find-j-requires c =
-    let start = c.before.before.before.before.before.before.before.befor{-?-}e in
     record {
-      areas = start.requires.areas;
-      keyed = start.requires.keyed;
-      list_wide = list_room_lem start.args.n start.requires.areas.within;
+      areas = c.requires.areas;
+      keyed = c.requires.keyed;
+      list_wide = list_room_lem c.args.n c.requires.areas.within;
       blank = λ x. zeros_at list_room x;
     }
 
 pub move_block-after-requires : goal.move_block-after-requires
 move_block-after-requires c =
-    let start = c.before.before.before.before.before.before.before.before.before.before.before.before.before.befor{-?-}e in
     let find = c.find-j in
     record {
-      areas = start.requires.areas;
-      keyed = start.requires.keyed;
+      areas = c.requires.areas;
+      keyed = c.requires.keyed;
       somewhere = omega (arith, c.at_least_one-p.ensures);
-      list_wide = omega (arith, find.auto, list_room_lem start.args.n start.requires.areas.within);
+      list_wide = omega (arith, find.auto, list_room_lem c.args.n c.requires.areas.within);
       found = find.ensures;
-      scratch_wide = start.requires.scratch_wide;
-      underway = start.requires.underway;
+      scratch_wide = c.requires.scratch_wide;
+      underway = c.requires.underway;
     }
 
 pub returns : goal.returns
 returns c =
-    let start = c.before.before.before.before.before.before.before.before.before.before.before.before.before.before.before.before.before.before.before.before.before.before.before.before.before.befor{-?-}e in
     let one = c.at_least_one-p.ensures in
     let found = c.find-j.ensures in
     let tallied = c.tally_list.ensures in
     let moved = c.move_block-after.ensures in record {
       held = (λ rs r ek ew held. moved.held rs r ek (ew ∙ sym one) held);
-      tallied = (λ rs held. tallied_found _ _ _ _ _ rs _ _ _ start.requires.keyed (found rs held) tallied.tallied one);
+      tallied = (λ rs held. tallied_found _ _ _ _ _ rs _ _ _ c.requires.keyed (found rs held) tallied.tallied one);
       summed = (λ rs r ek ew held covered. moved.summed rs r ek (ew ∙ sym one) held covered);
       small = tallied.small;
     }

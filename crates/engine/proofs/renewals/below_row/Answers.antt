@@ -6,27 +6,28 @@ use Prim.Native.Nat.{ℕ, ◌≤◌}
 use lib.ListN.{get_or}
 use Rattle.engine.specs.Moves.{other_after}
 use Rattle.engine.specs.Rows.{pairs, Row}
-use Rattle.engine.specs.RowMoves.{BothRows}
 use Rattle.engine.proofs.rows.RowLaws.{row_first, after_none}
 use Rattle.engine.proofs.rows.RowSkips.{first_bound, keep_below}
-use Rattle.engine.proofs.renewals.Ways.{Way, way_below, both_rows, merge_ready}
+use Rattle.engine.proofs.renewals.Ways.{way_below, both_rows, merge_ready}
 use Rattle.engine.proofs.renewals.RowSteps.{still_row, renews_merged, merged_small, merged_grown}
 use Rattle.engine.proofs.renewals.below_row.Goals as goal
 
-way : (c : goal.After-row_at-row) → Way c.args.read c.args.k c.args.k c.row_at-row.result c.row_at-row.result
-way c = way_below _ _ c.row_at-row.ensures c.requires.1
-
-rows : (c : goal.After-row_at-row) → BothRows c.row_at-row.result c.row_at-row.result c.args.area.now
-rows c = both_rows (way c) _ c.requires.0.fits
-
 pub offset_bounds-area-at : goal.offset_bounds-area-at
-offset_bounds-area-at c = omega (arith, rows c)
+offset_bounds-area-at c =
+    let way = way_below c.args.read c.args.k c.row_at-row.ensures c.requires.1 in
+    let rows = both_rows way c.args.area.now c.requires.0.fits in
+    omega (arith, rows)
 
 pub bounds-area-at : goal.bounds-area-at
-bounds-area-at c = omega (arith, rows c)
+bounds-area-at c =
+    let way = way_below c.args.read c.args.k c.row_at-row.ensures c.requires.1 in
+    let rows = both_rows way c.args.area.now c.requires.0.fits in
+    omega (arith, rows)
 
 pub returns-then-is_below : goal.returns-then-is_below
 returns-then-is_below c =
+    let way = way_below c.args.read c.args.k c.row_at-row.ensures c.requires.1 in
+    let rows = both_rows way c.args.area.now c.requires.0.fits in
     let at = c.args in
     let fits = c.requires.0.fits in
     let below = c.requires.1 in
@@ -37,7 +38,7 @@ returns-then-is_below c =
       renews = λ J L f source was.
           let held : Row at.area.now row.result (pairs (L k) n) = rw row.ensures was in
           let good = f.family.good k in
-          let first = row_first at.area.now row.result n (L k) (omega (arith, (rows c).source_room)) held in
+          let first = row_first at.area.now row.result n (L k) (omega (arith, rows.source_room)) held in
           let fb = first_bound J n n f.falling (omega arith) (omega (arith, f.there, below.present)) in
           let same : (m : ℕ) → m ≤ n → other_after J at.read.p (L k) m ≡ L k m = ⊎_elim
           (λ there. ⊎_elim
@@ -46,21 +47,26 @@ returns-then-is_below c =
           (c.is_below.ensures c.if-is_below.true))
           (λ z m hm. after_none J at.read.p (L k) fits.read_at z m ∙ sym (z m))
           (f.family.last k) in
-          still_row (way c) J L at.changes at.area.now same was;
+          still_row way J L at.changes at.area.now same was;
     }
 
 pub merge_row-more-requires : goal.merge_row-more-requires
-merge_row-more-requires c = let ready = c.requires.0 in merge_ready (way c) _ _ ready.fits ready.spare
+merge_row-more-requires c =
+    let way = way_below c.args.read c.args.k c.row_at-row.ensures c.requires.1 in
+    let ready = c.requires.0 in merge_ready way _ _ ready.fits ready.spare
 
 pub with-requires : goal.with-requires
-with-requires c = let me = c.merge_row-more in merged_small (way c) c.requires.0.fits c.args.changes me.result me.ensures.kept.0 me.ensures.kept.1 c.requires.0.small
+with-requires c =
+    let way = way_below c.args.read c.args.k c.row_at-row.ensures c.requires.1 in
+    let me = c.merge_row-more in merged_small way c.requires.0.fits c.args.changes me.result me.ensures.kept.0 me.ensures.kept.1 c.requires.0.small
 
 pub returns : goal.returns
 returns c =
+    let way = way_below c.args.read c.args.k c.row_at-row.ensures c.requires.1 in
     let at = c.args in
     let fits = c.requires.0.fits in
     let me = c.merge_row-more in
-    let w = way c in record {
-      grown = merged_grown w fits at.changes me.result me.ensures.kept.0 me.ensures.kept.1 c.with.result c.with.ensures;
-      renews = renews_merged at.list.now w at.changes at.area.now fits _ me.new.area refl me.result c.with.result me.ensures.kept.2 me.ensures.merged c.with.ensures;
+    record {
+      grown = merged_grown way fits at.changes me.result me.ensures.kept.0 me.ensures.kept.1 c.with.result c.with.ensures;
+      renews = renews_merged at.list.now way at.changes at.area.now fits _ me.new.area refl me.result c.with.result me.ensures.kept.2 me.ensures.merged c.with.ensures;
     }

@@ -24,7 +24,7 @@ returns-then-read c =
       grown = (omega arith, omega arith);
       renewed = λ J L fam was.
           let old = rw e at was in
-          rw e (emptied_row at.read J L at.changes at.area.now _ pre.0 past j pre.2 fam cl.0.0 (λ q. cl.1 (L n) n old.fits (λ x _. old.same x) q (omega arith)));
+          rw e (emptied_row at.read J L at.changes at.area.now _ pre.0 past j pre.2 fam cl.kept.0 (λ q. cl.closed (L n) n old.fits (λ x _. old.same x) q (omega arith)));
     }
 
 pub write_row-requires : goal.write_row-requires
@@ -40,7 +40,7 @@ returns c =
     let le : p ≤ at.read.n = omega (arith, c.if-read.false) in
     let e : min p at.read.n ≡ p = omega arith in record {
       grown = (omega (arith, wi.0), omega (arith, wi.1));
-      renewed = λ J L fam was. rw e (own_row at.read J L at.changes c.with.result at.area.now _ pre.0.read_at le wr.0
-          (wr.1 (own p) (L p) at.read.n (pairs_own p at.read.n pre.0.read_at le) (rw e at was))
+      renewed = λ J L fam was. rw e (own_row at.read J L at.changes c.with.result at.area.now _ pre.0.read_at le wr.kept
+          (wr.holds (own p) (L p) at.read.n (pairs_own p at.read.n pre.0.read_at le) (rw e at was))
           _ refl refl refl wi);
     }

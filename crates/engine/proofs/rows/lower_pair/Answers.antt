@@ -10,10 +10,7 @@ use Rattle.engine.proofs.rows.lower_pair.Goals as goal
 
 pub returns-then-area-at : goal.returns-then-area-at
 returns-then-area-at c =
-    record {
-      kept = (unmoved _ _ _).0;
-      moved = (unmoved _ _ _).1;
-    }
+    record { kept = unmoved c.args.area.now c.args.to.start c.args.to.room; moved = never }
 
 pub returns : goal.returns
 returns c =

@@ -7,7 +7,7 @@ use Rattle.engine.proofs.rows.merge_row.Goals as goal
 
 pub returns : goal.returns
 returns c =
-    let at = c.before.before.before.before.before.before.before.before.before.before.before.before.before.args{-?-} in
+    let at = c.args in
     let renew = c.renew-new.ensures in
     let copy = c.copy_row-old.ensures in record {
       kept = (omega (arith, renew.kept.0), omega (arith, copy.range), renew.kept.1);

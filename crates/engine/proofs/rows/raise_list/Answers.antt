@@ -12,24 +12,15 @@ use Rattle.engine.proofs.rows.raise_list.Goals as goal
 
 pub returns-then-s-place : goal.returns-then-s-place
 returns-then-s-place c =
-    record {
-      kept = (unmoved _ _ _).0;
-      moved = (unmoved _ _ _).1;
-    }
+    record { kept = unmoved c.args.area.now c.args.to.start c.args.to.room; moved = never }
 
 pub returns-then-area-at : goal.returns-then-area-at
 returns-then-area-at c =
-    record {
-      kept = (unmoved _ _ _).0;
-      moved = (unmoved _ _ _).1;
-    }
+    record { kept = unmoved c.args.area.now c.args.to.start c.args.to.room; moved = never }
 
 pub returns-then-p-area : goal.returns-then-p-area
 returns-then-p-area c =
-    record {
-      kept = (unmoved _ _ _).0;
-      moved = (unmoved _ _ _).1;
-    }
+    record { kept = unmoved c.args.area.now c.args.to.start c.args.to.room; moved = never }
 
 pub close-requires : goal.close-requires
 close-requires c = omega (arith, c.write_raised-count.auto.area)

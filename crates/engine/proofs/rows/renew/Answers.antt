@@ -15,9 +15,9 @@ returns c =
     let row = at.row in
     let ek : row.start + row.room - row.start ≡ row.room = omega arith in
     let mid = mid_length at.area.now row _ pre.1 ek in
-    let len : length me.new.1.1.0 ≡ row.room = me.auto.1.1.0 ∙ mid in record {
-      kept = (omega (arith, me.ensures.range, mid), put_kept at.area.now row _ pre.1 ek me.new.1.1.0 len);
+    let len : length me.new.out ≡ row.room = me.auto.out ∙ mid in record {
+      kept = (omega (arith, me.ensures.range, mid), put_kept at.area.now row _ pre.1 ek me.new.out len);
       holds = λ J L T gj gl hd hb held fits.
           let r = me.ensures.merged J L gj gl hd hb (mid_list at.area.now row _ pre.1 ek T at.n held) (omega (arith, fits, mid)) in
-          (r.0, put_row at.area.now row _ pre.1 ek me.new.1.1.0 len (other_after J at.p L) at.n fits r.1);
+          (r.0, put_row at.area.now row _ pre.1 ek me.new.out len (other_after J at.p L) at.n fits r.1);
     }

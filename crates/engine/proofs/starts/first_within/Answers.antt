@@ -22,7 +22,7 @@ pub loop-i-preserved : goal.loop-i-preserved
 loop-i-preserved c = let l = c.loop-i in let a = c.args in λ J n fall holds old. passed_more a.list.now J n a.most l.i fall holds (omega (arith, c.if-list-i.false)) (l.invariant J n fall holds old)
 
 pub returns : goal.returns
-returns c =  let i = c.loop-i.i in let list = c.args.list.now in let z = get_or-eq_default list 0 {n = 2 * i + 1} (omega arith) in record {
-      place = omega arith;
-      passed = λ J n fall holds old. c.loop-i.invariant J n fall holds old;
-    }
+returns c = let i = c.loop-i.i in let list = c.args.list.now in let z = get_or-eq_default list 0 {n = 2 * i + 1} (omega arith) in record {
+  place = omega arith;
+  passed = λ J n fall holds old. c.loop-i.invariant J n fall holds old;
+}

@@ -17,7 +17,7 @@ loop-k-preserved c =
     let pre = c.requires in
     let lp = c.loop-k in
     let row = c.above_row-sum in
-    rising_next lp.invariant lp.k _ _ _ pre.0.fits.read_at (omega (arith, lp.invariant.from)) (omega (arith, pre.1.within)) (omega arith) (omega arith) (omega (arith, pre.1.within)) (record { room = row.auto.area; spare = row.auto.scratch.1.0; grown = row.ensures.grown }) row.ensures.renews
+    rising_next lp.invariant lp.k _ _ _ pre.0.fits.read_at (omega (arith, lp.invariant.from)) (omega (arith, pre.1.within)) (omega arith) (omega arith) (omega (arith, pre.1.within)) (record { room = row.auto.area; spare = row.auto.scratch; grown = row.ensures.grown }) row.ensures.renews
 
 pub shape_of-area : goal.shape_of-area
 shape_of-area c = c.loop-k.invariant.turned.room
@@ -27,6 +27,6 @@ shape_of-scratch c = c.loop-k.invariant.turned.spare
 
 pub returns : goal.returns
 returns c = let pre = c.requires in record {
-      grown = (rising_all c.loop-k.invariant pre.1.some (omega (arith, pre.0.fits.narrow, pre.1.within)) (omega arith)).0;
-      leads = (rising_all c.loop-k.invariant pre.1.some (omega (arith, pre.0.fits.narrow, pre.1.within)) (omega arith)).1;
-    }
+  grown = (rising_all c.loop-k.invariant pre.1.some (omega (arith, pre.0.fits.narrow, pre.1.within)) (omega arith)).0;
+  leads = (rising_all c.loop-k.invariant pre.1.some (omega (arith, pre.0.fits.narrow, pre.1.within)) (omega arith)).1;
+}

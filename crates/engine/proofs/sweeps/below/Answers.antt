@@ -28,8 +28,8 @@ pub loop-k-preserved : goal.loop-k-preserved
 loop-k-preserved c =
     let pre = c.requires in
     let lp = c.loop-k in
-    let row = c.Below-row in
-    sinking_next lp.invariant lp.k _ _ _ pre.0.fits.read_at lp.invariant.from (omega arith) (omega arith) (omega arith) (record { room = row.auto.0; spare = row.auto.1.1.0; grown = row.ensures.0 }) row.ensures.1
+    let row = c.below_row-sum in
+    sinking_next lp.invariant lp.k _ _ _ pre.0.fits.read_at lp.invariant.from (omega arith) (omega arith) (omega arith) (record { room = row.auto.area; spare = row.auto.scratch; grown = row.ensures.grown }) row.ensures.renews
 
 pub shape_of-area : goal.shape_of-area
 shape_of-area c = c.loop-k.invariant.turned.room
@@ -38,7 +38,7 @@ pub shape_of-scratch : goal.shape_of-scratch
 shape_of-scratch c = c.loop-k.invariant.turned.spare
 
 pub returns : goal.returns
-returns c = 
+returns c =
     record {
       grown = (sinking_all c.loop-k.invariant (omega (arith, c.requires.0.fits.narrow)) (omega arith)).0;
       leads = (sinking_all c.loop-k.invariant (omega (arith, c.requires.0.fits.narrow)) (omega arith)).1;

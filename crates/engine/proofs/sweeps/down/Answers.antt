@@ -19,7 +19,7 @@ loop-k-preserved c =
     let pre = c.requires in
     let lp = c.loop-k in
     let row = c.down_row-sum in
-    sinking_next lp.invariant (lp.k - 1) _ _ _ pre.0.fits.read_at (omega (arith, lp.invariant.from)) (omega arith) (omega (arith, pre.0.fits.read_at)) (omega arith) (record { room = row.auto.area; spare = row.auto.scratch.1.0; grown = row.ensures.grown }) row.ensures.renews
+    sinking_next lp.invariant (lp.k - 1) _ _ _ pre.0.fits.read_at (omega (arith, lp.invariant.from)) (omega arith) (omega (arith, pre.0.fits.read_at)) (omega arith) (record { room = row.auto.area; spare = row.auto.scratch; grown = row.ensures.grown }) row.ensures.renews
 
 pub shape_of-area : goal.shape_of-area
 shape_of-area c = c.loop-k.invariant.turned.room

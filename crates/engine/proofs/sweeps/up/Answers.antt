@@ -21,7 +21,7 @@ loop-k-preserved c =
     let pre = c.requires in
     let lp = c.loop-k in
     let row = c.up_row-sum in
-    rising_next lp.invariant (lp.k + 1) _ _ _ pre.0.fits.read_at (omega (arith, lp.invariant.from, pre.1.present)) (omega (arith, pre.1.within)) (omega arith) (omega arith) (omega arith) (record { room = row.auto.area; spare = row.auto.scratch.1.0; grown = row.ensures.grown }) row.ensures.renews
+    rising_next lp.invariant (lp.k + 1) _ _ _ pre.0.fits.read_at (omega (arith, lp.invariant.from, pre.1.present)) (omega (arith, pre.1.within)) (omega arith) (omega arith) (omega arith) (record { room = row.auto.area; spare = row.auto.scratch; grown = row.ensures.grown }) row.ensures.renews
 
 pub shape_of-area : goal.shape_of-area
 shape_of-area c = c.loop-k.invariant.turned.room
@@ -30,7 +30,7 @@ pub shape_of-scratch : goal.shape_of-scratch
 shape_of-scratch c = c.loop-k.invariant.turned.spare
 
 pub returns : goal.returns
-returns c = 
+returns c =
     record {
       grown = (rising_all c.loop-k.invariant (omega arith) (omega (arith, c.requires.0.fits.narrow, c.requires.1.within)) (omega arith)).0;
       leads = (rising_all c.loop-k.invariant (omega arith) (omega (arith, c.requires.0.fits.narrow, c.requires.1.within)) (omega arith)).1;

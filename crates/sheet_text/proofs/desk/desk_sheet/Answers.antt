@@ -16,7 +16,7 @@ pub returns-then-trace-gt-LARGEST_INPUT : goal.returns-then-trace-gt-LARGEST_INP
 returns-then-trace-gt-LARGEST_INPUT c =
     let at = c.args in
     let areas = areas_of at.blocks.now at.stretches.now at.counts.now in
-    let put = c.Put-refused.ensures in
+    let put = c.put_refused.ensures in
     let large = large_sheet at.trace.now areas c.if-trace-gt-LARGEST_INPUT.true in
     let same = large_areas at.trace.now areas c.if-trace-gt-LARGEST_INPUT.true in
     let line = ap (λ (z : ℕ). refused_line z largest_input) c.refusal_number.ensures ∙ sym large in

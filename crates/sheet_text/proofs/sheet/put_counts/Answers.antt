@@ -12,10 +12,9 @@ loop-k-init c = let a = c.args in (omega arith, omega arith, no_counts a.counts.
 
 pub loop-k-preserved : goal.loop-k-preserved
 loop-k-preserved c =
-    let put = c in
-    let loop = put.before.before.before.before.loop in
-    let a = put.before.before.before.before.before.before.before.args in
-    (omega arith, omega arith, rw add-one (counts_put a.counts.now a.m loop.k loop.invariant.2 put.put-spaced.ensures.0))
+    let loop = c.loop-k in
+    let a = c.args in
+    (omega arith, omega arith, rw add-one (counts_put a.counts.now a.m loop.k loop.invariant.2 c.put_spaced-at.ensures.0))
 
 pub shape_of-text : goal.shape_of-text
 shape_of-text c = put_length c.loop-k.invariant.2

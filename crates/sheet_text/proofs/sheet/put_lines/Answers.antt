@@ -11,12 +11,6 @@ loop-m-init c = (omega arith, omega arith, no_lines c.args.counts.now, refl)
 pub put_line-at-requires : goal.put_line-at-requires
 put_line-at-requires c = (omega arith, omega arith, omega arith, c.requires.3 _ (omega arith))
 
-pub overflow_add-m : goal.overflow_add-m
-overflow_add-m c = omega arith
-
-pub loop-m-smaller : goal.loop-m-smaller
-loop-m-smaller c = omega arith
-
 pub loop-m-preserved : goal.loop-m-preserved
 loop-m-preserved c =
     let l = c.loop-m in

@@ -7,36 +7,27 @@ use Rattle.sheet_text.proofs.sheet.sheet.Goals as goal
 
 pub put_lines-requires : goal.put_lines-requires
 put_lines-requires c =
-    let matched = c in
-    let ran = matched.before.before.before.before.before.before.before.before in
-    let args = ran.before.before.before.before.before.before.before.before.before.args in
-    let said = ran.run.ensures in
-    let ready = lines_ready args.trace.now (areas_of args.blocks.now args.stretches.now args.counts.now) _ said.0 _ matched.report.given.1 _ said.1.2 _ c.size_in.ensures (omega (arith, c.known_told-1.given)) in
+    let args = c.args in
+    let said = c.run.ensures in
+    let ready = lines_ready args.trace.now (areas_of args.blocks.now args.stretches.now args.counts.now) _ said.answer _ c.in-Done.is _ said.areas.2 _ c.size_in.ensures (omega arith) in
     (omega arith, ready.0, ready.1, ready.2)
 
 pub returns-in-Done : goal.returns-in-Done
 returns-in-Done c =
-    let lined = c in
-    let headed = lined.before.before.before.before.before.before in
-    let matched = headed.before.before.before in
-    let ran = matched.before.before.before.before.before.before.before.before in
-    let args = ran.before.before.before.before.before.before.before.before.before.args in
-    let said = ran.run.ensures in
-    let put = sheet_done args.trace.now (areas_of args.blocks.now args.stretches.now args.counts.now) _ said.0 _ matched.report.given.1 _ said.1.2 _ lined.before.size_in.ensures headed.put-heading.ensures.0 lined.put-lines.ensures.0 in record {
+    let args = c.args in
+    let said = c.run.ensures in
+    let put = sheet_done args.trace.now (areas_of args.blocks.now args.stretches.now args.counts.now) _ said.answer _ c.in-Done.is _ said.areas.2 _ c.size_in.ensures c.put_heading-at.ensures.0 c.put_lines.ensures.0 in record {
       text = whole put;
       short = omega (arith, lines_short args.trace.now);
-      areas = said.1;
+      areas = said.areas;
     }
 
 pub returns-in-Refused : goal.returns-in-Refused
 returns-in-Refused c =
-    let refused = c in
-    let matched = refused.before.before.before.before in
-    let ran = matched.before.before.before.before.before.before.before.before in
-    let args = ran.before.before.before.before.before.before.before.before.before.args in
-    let said = ran.run.ensures in
-    let put = sheet_refused args.trace.now (areas_of args.blocks.now args.stretches.now args.counts.now) _ said.0 _ _ matched.why.given.1 _ refused.before.refusal-number.ensures refused.Put-refused.ensures.0 in record {
+    let args = c.args in
+    let said = c.run.ensures in
+    let put = sheet_refused args.trace.now (areas_of args.blocks.now args.stretches.now args.counts.now) _ said.answer _ _ c.in-Refused.is _ c.refusal_number.ensures c.put_refused.ensures.0 in record {
       text = whole put;
       short = omega arith;
-      areas = said.1;
+      areas = said.areas;
     }

@@ -3,7 +3,4 @@ use Rattle.sheet_text.proofs.PutCases.{spaced_number}
 use Rattle.sheet_text.proofs.text.put_spaced.Goals as goal
 
 pub returns : goal.returns
-returns c =
-    let p = c in
-    let q = p.before.before.before.before in
-    spaced_number _ q.put.ensures.0 q.put.ensures.1 p.put_number.ensures.0 p.put_number.ensures.1
+returns c = spaced_number _ c.put-end.ensures.0 c.put-end.ensures.1 c.put_number.ensures.0 c.put_number.ensures.1

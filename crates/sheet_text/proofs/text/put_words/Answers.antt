@@ -8,19 +8,10 @@ use Rattle.sheet_text.proofs.text.put_words.Goals as goal
 pub loop-i-init : goal.loop-i-init
 loop-i-init c = (omega arith, put_none)
 
-pub bounds-words-i : goal.bounds-words-i
-bounds-words-i c = omega arith
-
 pub put-end-requires : goal.put-end-requires
 put-end-requires c =
     let l = c.loop-i in
     omega (arith, l.invariant.1.place, length-take-le l.i c.args.words.now l.invariant.0)
-
-pub overflow_add-i : goal.overflow_add-i
-overflow_add-i c = omega arith
-
-pub loop-i-smaller : goal.loop-i-smaller
-loop-i-smaller c = omega arith
 
 pub loop-i-preserved : goal.loop-i-preserved
 loop-i-preserved c = (omega arith, search next_word)

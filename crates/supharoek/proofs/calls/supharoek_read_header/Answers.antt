@@ -8,8 +8,8 @@ use Rattle.supharoek.proofs.calls.supharoek_read_header.Goals as goal
 
 pub returns-in-Accepted : goal.returns-in-Accepted
 unfolding size
-returns-in-Accepted c = told_case header_answer header_told c.args.out.now _ _ _ c.read_header.ensures _ c.edition-1.given.1 _ _ _ refl refl c.tell.ensures
+returns-in-Accepted c = told_case header_answer header_told c.args.out.now _ _ _ c.read_header.ensures _ c.in-Accepted.is _ _ _ refl refl c.tell.ensures
 
 pub returns-in-Refused : goal.returns-in-Refused
 unfolding size
-returns-in-Refused c = told_case header_answer header_told c.args.out.now _ _ _ c.read_header.ensures _ c.why-1.given.1 _ _ _ refl c.refusal_number.ensures c.tell_one.ensures
+returns-in-Refused c = told_case header_answer header_told c.args.out.now _ _ _ c.read_header.ensures _ c.in-Refused.is _ _ _ refl c.refusal_number.ensures c.tell_one.ensures

@@ -6,7 +6,7 @@ use Rattle.supharoek.proofs.told.Tellings.{told_case, shown_none}
 use Rattle.supharoek.proofs.calls.tell_written.Goals as goal
 
 pub returns-in-Length : goal.returns-in-Length
-returns-in-Length c = told_case written_answer writing_told c.args.out.now _ _ _ refl _ c.written-1.given.1 _ _ _ refl refl c.tell_one.ensures
+returns-in-Length c = told_case written_answer writing_told c.args.out.now _ _ _ refl _ c.in-Length.is _ _ _ refl refl c.tell_one.ensures
 
 pub returns-in-Refused : goal.returns-in-Refused
-returns-in-Refused c = told_case written_answer writing_told c.args.out.now _ _ _ refl _ c.written-in-Refused-1.given.1 _ _ _ refl c.refusal_number.ensures (shown_none _)
+returns-in-Refused c = told_case written_answer writing_told c.args.out.now _ _ _ refl _ c.in-Refused.is _ _ _ refl c.refusal_number.ensures (shown_none _)

@@ -8,13 +8,13 @@ use Rattle.supharoek.proofs.steps.supharoek_count.Goals as goal
 pub returns-in-Added : goal.returns-in-Added
 returns-in-Added c =
     let said = c.add_outcome.ensures in record {
-      told = told_case counted_answer count_told c.args.out.now _ _ _ said.0 _ c.n-1.given.1 _ _ _ refl refl c.tell_one.ensures;
+      told = told_case counted_answer count_told c.args.out.now _ _ _ said.0 _ c.in-Added.is _ _ _ refl refl c.tell_one.ensures;
       counts = said.1;
     }
 
 pub returns-in-Refused : goal.returns-in-Refused
 returns-in-Refused c =
     let said = c.add_outcome.ensures in record {
-      told = told_case counted_answer count_told c.args.out.now _ _ _ said.0 _ c.why-1.given.1 _ _ _ refl c.refusal_number.ensures c.tell_one-in-Refused.ensures;
+      told = told_case counted_answer count_told c.args.out.now _ _ _ said.0 _ c.in-Refused.is _ _ _ refl c.refusal_number.ensures c.tell_one-in-Refused.ensures;
       counts = said.1;
     }

@@ -3,7 +3,7 @@ use Rattle.supharoek.proofs.steps.Cases.{some_ratio, no_ratio}
 use Rattle.supharoek.proofs.steps.supharoek_ratio.Goals as goal
 
 pub returns-in-Ratio : goal.returns-in-Ratio
-returns-in-Ratio c = some_ratio _ _ _ c.miss_ratio.ensures c.x-1.given.1
+returns-in-Ratio c = some_ratio _ _ _ c.miss_ratio.ensures c.in-Ratio.is
 
 pub returns-in-NoRatio : goal.returns-in-NoRatio
-returns-in-NoRatio c = no_ratio _ _ _ c.miss_ratio.ensures c.enum_told-1.given.1 c.refusal_number.ensures
+returns-in-NoRatio c = no_ratio _ _ _ c.miss_ratio.ensures c.in-NoRatio.is c.refusal_number.ensures

@@ -22,10 +22,8 @@ shape_of-out-then-places-lt-LARGEST_SIZE c = search rules
 pub returns-then-places-lt-LARGEST_SIZE : goal.returns-then-places-lt-LARGEST_SIZE
 unfolding size
 returns-then-places-lt-LARGEST_SIZE c =
-    record {
-      told = (no_room_lem _ _ _ _ _ c.args.out.now c.if-places-lt-LARGEST_SIZE.true (c.refusal_number.ensures, c.tell_one.ensures)).0;
-      places = (no_room_lem _ _ _ _ _ c.args.out.now c.if-places-lt-LARGEST_SIZE.true (c.refusal_number.ensures, c.tell_one.ensures)).1;
-    }
+    let none = no_room_lem _ _ _ _ _ c.args.out.now c.if-places-lt-LARGEST_SIZE.true (c.refusal_number.ensures, c.tell_one.ensures) in
+    record { told = none.0; places = none.1 }
 
 pub first_places-requires : goal.first_places-requires
 unfolding size
@@ -54,9 +52,7 @@ shape_of-out c = search rules
 pub returns : goal.returns
 unfolding size
 returns c =
-    let first = c in
     let step = c.step-stepped in
-    let long : length step.result.card.places ≡ places_lent = search rules in record {
-      told = (stepped _ _ _ _ _ first.before.before.before.before.before.args.out.now step.result first.before.before.if1.false first.first-places.ensures step.ensures long c.write_places.ensures c.tell_step.ensures).0;
-      places = (stepped _ _ _ _ _ first.before.before.before.before.before.args.out.now step.result first.before.before.if1.false first.first-places.ensures step.ensures long c.write_places.ensures c.tell_step.ensures).1;
-    }
+    let long : length step.result.card.places ≡ places_lent = search rules in
+    let all = stepped _ _ _ _ _ c.args.out.now step.result c.if-places-lt-LARGEST_SIZE.false c.first_places.ensures step.ensures long c.write_places.ensures c.tell_step.ensures in
+    record { told = all.0; places = all.1 }

@@ -8,7 +8,7 @@ use Rattle.supharoek.proofs.told.Tellings.{told_case, shown_none}
 use Rattle.supharoek.proofs.steps.tell_step.Goals as goal
 
 pub returns-in-Outcome : goal.returns-in-Outcome
-returns-in-Outcome c = told_case answer_of step_told c.args.out.now _ _ _ refl _ c.answer-1.given.1 _ _ _ (ap (λ (h : ℕ). tells 0 (c.answer-1.given.0.0 ∷ h ∷ [])) (sym c.hit_of.ensures)) refl c.tell.ensures
+returns-in-Outcome c = told_case answer_of step_told c.args.out.now _ _ _ refl _ c.in-Outcome.is _ _ _ (ap (λ (h : ℕ). tells 0 (c.in-Outcome.o ∷ h ∷ [])) (sym c.hit_of.ensures)) refl c.tell.ensures
 
 pub returns-in-Refused : goal.returns-in-Refused
-returns-in-Refused c = told_case answer_of step_told c.args.out.now _ _ _ refl _ c.answer-in-Refused-1.given.1 _ _ _ refl c.refusal_number.ensures (shown_none _)
+returns-in-Refused c = told_case answer_of step_told c.args.out.now _ _ _ refl _ c.in-Refused.is _ _ _ refl c.refusal_number.ensures (shown_none _)
