@@ -269,7 +269,7 @@ def check_sources(tally, desk):
     tally.equal('changed sources', (status, shown, last_crate(told), told.split('\n')[-2]), (2, '', 'sheet', OTHER_SAID))
     source.write_text(changed(text, *LESS_ROOM))
     status, shown, said = edges.ended(script, given=edges.WORKED, timeout=PROOF)
-    told = (status, shown, UNPROVED in said, re.search('^fn sheet::sheet_of: no', said, re.MULTILINE) is not None)
+    told = (status, shown, UNPROVED in said, re.search('^fn sheet::print_sheet: no', said, re.MULTILINE) is not None)
     tally.equal('sources that are not proved', told, (2, '', True, True))
 
 
