@@ -72,6 +72,8 @@ def check_outputs(tally, program):
                               ([1] * 20 + [edges.error('EAGAIN')], 20, 'Resource temporarily unavailable')):
         tally.equal('writes %s' % steps, stepped(program, WRITES=steps), (2, sheet[:taken], said % why))
     tally.equal('writes of little', stepped(program, WRITES=[1, 2, 3, 50, 1]), (0, sheet, ''))
+    interrupted = edges.error('EINTR')
+    tally.equal('interrupted writes', stepped(program, WRITES=[interrupted] * 3 + [20, interrupted, 5]), (0, sheet, ''))
     failing = [edges.error('EIO')]
     tally.equal('a pipe, which does not wait for a disk', stepped(program, SYNCS=failing), (0, sheet, ''))
     with tempfile.TemporaryDirectory() as folder:

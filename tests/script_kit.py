@@ -179,14 +179,14 @@ def check_progress(tally, desk):
     desk.kit('', PROVED.format('low') + PROVED.format('middle') + UNCHANGED)
     told = 'sheet: 1 of 3: low proved\nsheet: 2 of 3: middle proved\n'
     tally.equal('crates that are proved', timed(desk.ended())[:3], (0, edges.WORKED_SHEET, told))
-    proof = 'sleep 4\ncat <<"SAYS"\n%sSAYS\n'
+    proof = 'sleep 6\ncat <<"SAYS"\n%sSAYS\n'
     desk.kit(proof % PROVED.format('middle') + proof % PROVED.format('sheet'))
     told = PROVING + 'sheet: 2 of 3: middle proved\nsheet: 3 of 3: sheet proved\n'
     *ended, taken = timed(desk.ended())
     tally.equal('a long check', tuple(ended), (0, edges.WORKED_SHEET, told))
-    tally.equal('how long it took', [4 <= seconds <= 7 for seconds in taken], [True, True])
+    tally.equal('how long it took', [6 <= seconds <= 9 for seconds in taken], [True, True])
     for waits in ('waiting for another rt to finish in /somewhere', 'low: another copy is building this library; waiting for it'):
-        desk.kit('echo "rt: %s"; sleep 4' % waits)
+        desk.kit('echo "rt: %s"; sleep 6' % waits)
         tally.equal('a kit that waits', desk.ended(), (0, edges.WORKED_SHEET, 'sheet: %s\n' % waits))
         desk.kit('echo "rt: %s"' % waits)
         tally.equal('a kit that waits a moment', desk.ended(), (0, edges.WORKED_SHEET, ''))
@@ -269,7 +269,7 @@ def check_sources(tally, desk):
     tally.equal('changed sources', (status, shown, last_crate(told), told.split('\n')[-2]), (2, '', 'sheet', OTHER_SAID))
     source.write_text(changed(text, *LESS_ROOM))
     status, shown, said = edges.ended(script, given=edges.WORKED, timeout=PROOF)
-    told = (status, shown, UNPROVED in said, re.search('^fn sheet::sheet_of: no', said, re.MULTILINE) is not None)
+    told = (status, shown, UNPROVED in said, re.search('^fn sheet::print_sheet: no', said, re.MULTILINE) is not None)
     tally.equal('sources that are not proved', told, (2, '', True, True))
 
 

@@ -26,6 +26,7 @@ enum fault {
     output_4096,   /* the sheet's output is cut at 4,096 bytes */
     single_write,  /* a write that takes a part is taken for all of them */
     silent_write,  /* a write that fails is not told */
+    write_fails,   /* a write that a signal interrupts is not tried again */
     silent_sync,   /* a file that does not come to the disk is not told */
     no_status,     /* a failure has the status of a success */
     text_4096,     /* the text is 4,096 bytes long, and the sheet is told as far as it fits */
@@ -79,6 +80,8 @@ static int write_all(size_t length) {
     size_t done = 0, most = fault == output_4096 && length > 4096 ? 4096 : length;
     while (done < most) {
         long put = write(1, text + done, most - done);
+        if (put < 0 && errno == EINTR && fault != write_fails)
+            continue;
         if (put <= 0)
             return fault == silent_write;
         done = fault == single_write ? most : done + (size_t)put;
