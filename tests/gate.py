@@ -31,6 +31,8 @@ EDITS = (
     ('', 1),
 )
 ENDING = 'echo working\nprintf "%%s\\n" "%s"\nexit %d\n'
+# what specs, proofs and sources declare: a word of several parts that a page names has to be one of these
+DECLARED = r'\b(?:pub|fn|mod|ensures|const|struct|enum)\b(?: (?:record|data|fn|mod|const|struct|enum)\b)? (\w+)'
 # how one part of the gate ends, with which status, and what that adds to what passed and failed
 ENDS = (
     (PASSED, 0, (3, 0)),
@@ -146,7 +148,8 @@ def not_there(text, root):
     """What a page names and is not in a repository: theorems where its tables have them, words of code, and files."""
     theorems = {name for name, files in named(text) if not any(declares(root / file, name) for file in files)}
     code = '\n'.join(path.read_text() for part in ('specs', 'proofs', 'src') for path in root.glob('crates/*/%s/**/*.*' % part))
-    words = set(re.findall(r"\w+(?:[-']\w+)*", code)) | {path.name for path in root.glob('crates/*')}
+    words = set(re.findall(r"[^\W_]+(?:[-'][^\W_]+)*", code)) | set(re.findall(DECLARED, code, re.MULTILINE))
+    words |= {path.name for path in root.glob('crates/*')}
     files = {path for path in re.findall(r'`((?:crates|tests|include|docs)/[^`]*)`', text) if not (root / path).exists()}
     return theorems, set(shown(text)) - words, files
 
@@ -160,7 +163,7 @@ def check_theorems(tally, folder):
     for part in ('specs', 'proofs', 'src'):
         (root / 'crates' / 'told' / part).mkdir(parents=True)
     (root / 'crates' / 'told' / 'specs' / 'Words.antt').write_text('pub defined_of : Word\n')
-    (root / 'crates' / 'told' / 'proofs' / 'Laws.antt').write_text('pub held : Law\nunheld : Law\n')
+    (root / 'crates' / 'told' / 'proofs' / 'Laws.antt').write_text('pub held : Law\nunheld : Law\nheld = only_used\n')
     (root / 'crates' / 'told' / 'src' / 'lib.rt').write_text('fn kept()\n    ensures short { true }\n')
     page = '| What | Theorem | File in `crates/told/proofs` |\n|---|---|---|\n| `defined_of` | `%s` | `%s` |\n\nAs %s.\n'
     for name, file, told, want in (
@@ -173,6 +176,7 @@ def check_theorems(tally, folder):
             ('lost', 'Lost.antt', 'told', (('lost',), ('lost',), ())),
             ('held', 'Laws.antt', '`definedOf x` of `told::kept`', ((), ('definedOf',), ())),
             ('held', 'Laws.antt', '`gone` and `gone x`', ((), ('gone',), ())),
+            ('held', 'Laws.antt', '`defined_of` and `only_used`', ((), ('only_used',), ())),
             ('held', 'Laws.antt', '`crates/told/specs/Laws.antt`', ((), (), ('crates/told/specs/Laws.antt',)))):
         want = tuple(map(set, want))
         tally.equal('a page with %s, %s, %s' % (name, file, told), not_there(page % (name, file, told), root), want)
