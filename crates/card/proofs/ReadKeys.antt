@@ -4,7 +4,8 @@ use mathlib.Core.Bool.{true}
 use Prim.Native.Nat.{ℕ, suc, ◌%◌, ◌<◌}
 use native.Mathlib.Nat.{mod-eq_of_lt}
 use native.Mathlib.Omega.{arith}
-use Rattle.terms.specs.Ranges.{Range, in_range, volume, block}
+use Rattle.terms.specs.declared.range.Range.{Range}
+use Rattle.terms.specs.Ranges.{in_range, volume, block}
 use Rattle.terms.specs.Reads.{Read, read_of, ReadOk}
 use Rattle.terms.proofs.Ranges.{bounds}
 use Rattle.card.specs.Rule.{key_of}

@@ -4,7 +4,8 @@ use mathlib.Core.Bool.{Bool, true, false, cond}
 use Prim.Native.Nat.{ℕ, ◌+◌, ◌≤◌, ◌<◌}
 use native.Mathlib.Omega.{arith}
 use lib.ListN.{length}
-use Rattle.terms.specs.Ranges.{Range, in_range, edition, size_up_to, volume, block, priority}
+use Rattle.terms.specs.declared.range.Range.{Range}
+use Rattle.terms.specs.Ranges.{in_range, edition, size_up_to, volume, block, priority}
 use Rattle.trace.specs.Number.{Numeral, Value, Fault, number_at}
 use Rattle.trace.specs.Reading.{Reading, Given, Refused, tested, and_then, field, header_at, placed_in, placed_at, formed_at, record_at}
 use Rattle.trace.proofs.number.Laws.{OfValue}

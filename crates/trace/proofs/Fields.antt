@@ -10,7 +10,8 @@ use mir.Val.{Fits}
 use mir.Syntax.{w64}
 use Rattle.terms.specs.declared.Refusal.{Refusal}
 use Rattle.terms.specs.Refusals.{number_of}
-use Rattle.terms.specs.Ranges.{Range, in_range, block}
+use Rattle.terms.specs.declared.range.Range.{Range}
+use Rattle.terms.specs.Ranges.{in_range, block}
 use Rattle.trace.specs.declared.number.Number.{Number}
 use Rattle.trace.specs.declared.number.Number.TheVariants as the_number
 use Rattle.trace.specs.Number.{number_at, top_byte, bytes_before, fault_of}

@@ -10,7 +10,8 @@ use lib.Seq.{drop-drop}
 use borrow.Author.Rules.{part_to_end}
 use Rattle.terms.specs.declared.Refusal.{Refusal}
 use Rattle.terms.specs.Refusals.{number_of}
-use Rattle.terms.specs.Ranges.{Range, in_range, volume, block, priority}
+use Rattle.terms.specs.declared.range.Range.{Range}
+use Rattle.terms.specs.Ranges.{in_range, volume, block, priority}
 use Rattle.terms.specs.Reads.{Read, read_of, ReadOk}
 use Rattle.trace.specs.declared.record.Record.{Record}
 use Rattle.trace.specs.declared.record.Record.TheVariants as the_record

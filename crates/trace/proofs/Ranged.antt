@@ -4,7 +4,8 @@ use mathlib.Core.Bool.{Bool, true, false}
 use Prim.Native.Nat.{ℕ, ◌<◌}
 use native.Mathlib.Omega.{arith}
 use Rattle.terms.specs.Refusals.{number_of}
-use Rattle.terms.specs.Ranges.{Range, in_range, edition, size, volume, block, priority}
+use Rattle.terms.specs.declared.range.Range.{Range}
+use Rattle.terms.specs.Ranges.{in_range, edition, size, volume, block, priority}
 use Rattle.trace.specs.Writing.{Writing, Refused, ranged}
 use Rattle.trace.specs.Bounds.{number_limit}
 use Rattle.terms.proofs.Ranges.{bounds}

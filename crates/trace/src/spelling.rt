@@ -5,7 +5,6 @@ ghost use Rattle.trace.specs.Writing.{spaced, put, buffer_after};
 ghost use Rattle.trace.specs.Answers.{written_answer};
 ghost use Rattle.trace.specs.Bounds.{number_limit, Spelled};
 
-use crate::Written;
 use terms::Refusal;
 
 // How many bytes a number takes.
@@ -16,8 +15,8 @@ fn number_length(value: u64) -> usize
     let mut rest = value;
     let mut total = 1;
     while 128 <= rest {
-        rest = rest / 128;
-        total = total + 1;
+        rest /= 128;
+        total += 1;
     }
     total
 }
@@ -31,8 +30,8 @@ fn write_number(part: &mut [u8], value: u64) -> usize
     let mut at = 0;
     while 128 <= rest {
         part[at] = (128 + rest % 128) as u8;
-        rest = rest / 128;
-        at = at + 1;
+        rest /= 128;
+        at += 1;
     }
     part[at] = rest as u8;
     at + 1
@@ -44,10 +43,8 @@ fn numbers_length(values: &[u64]) -> usize
     ensures { result ≡ length (spellings values.now) }
 {
     let mut total: usize = 0;
-    let mut i = 0;
-    while i < values.len() {
-        total = total + number_length(values[i]);
-        i = i + 1;
+    for value in values {
+        total += number_length(*value);
     }
     total
 }
@@ -58,26 +55,21 @@ fn put_numbers(buffer: &mut [u8], at: usize, values: &[u64])
     ensures { buffer.new ≡ put buffer.old at (spellings values.now) }
 {
     let mut next = at;
-    let mut i = 0;
-    while i < values.len() {
-        next = next + write_number(&mut buffer[next..], values[i]);
-        i = i + 1;
+    for value in values {
+        next += write_number(&mut buffer[next..], *value);
     }
 }
 
 // Writes the values from an offset on, if they fit there.
-pub fn write_numbers(buffer: &mut [u8], at: usize, values: &[u64]) -> Written
+pub fn write_numbers(buffer: &mut [u8], at: usize, values: &[u64]) -> Result<usize, Refusal>
     requires { Spelled values.now }
     ensures { (written_answer result ≡ spaced (length buffer.old) at (length (spellings values.now)))
         × (buffer.new ≡ buffer_after (written_answer result) buffer.old at (spellings values.now)) }
 {
     let need = numbers_length(values);
-    if buffer.len() < at {
-        return Written::Refused(Refusal::Space);
-    }
-    if buffer.len() - at < need {
-        return Written::Refused(Refusal::Space);
+    if buffer.len() < at || buffer.len() - at < need {
+        return Err(Refusal::Space);
     }
     put_numbers(buffer, at, values);
-    Written::Length(need)
+    Ok(need)
 }
