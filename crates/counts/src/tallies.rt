@@ -6,8 +6,6 @@ ghost use Rattle.counts.specs.Columns.{columns, row, table};
 ghost use Rattle.counts.specs.Tallies.{SumsGive, Tallies};
 ghost use Rattle.counts.specs.TallySteps.{BumpReady, ReadReady, AddReady, WriteReady, FinishReady, bumped, begun, GrownBy, PartsBegin, ReadTallied, Added};
 
-use terms::numbers::larger;
-
 // The counts of a size, one for each outcome.
 pub const COLUMNS: usize = 6;
 
@@ -46,8 +44,8 @@ pub fn tally(counts: &mut [u64], n: usize, p: usize, first: usize, reached: usiz
     ensures small { GrownBy 1 counts.old counts.new }
 {
     begin(counts, n, first, p);
-    bump(counts, n, 1, larger(reached, p));
-    bump(counts, n, 2, larger(above, p));
+    bump(counts, n, 1, reached.max(p));
+    bump(counts, n, 2, above.max(p));
 }
 
 // The sums of the columns over the sizes so far, with one size more, whose tallies start at an index.

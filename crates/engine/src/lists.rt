@@ -5,8 +5,7 @@ ghost use Rattle.card.specs.Falling.{Falling};
 ghost use Rattle.card.specs.Moves.{taken_out, put_in};
 ghost use Rattle.engine.specs.Lists.{Holds, Begins, Ends, CursorAt, GoesOn, GoesTo, ListedNext, MergedInto, next_size};
 
-use terms::LARGEST_SIZE;
-use terms::numbers::smaller;
+use terms::range::LARGEST_SIZE;
 
 // Room for the longest list of a block and two zeros.
 pub const LIST_ROOM: usize = LARGEST_SIZE + 3;
@@ -129,7 +128,7 @@ fn last_still(x: u16, y: u16, s: u16, l: u16, r: u16) -> u16
     ensures still { (s < x → result < x) × (s < y → result < y) }
     ensures pushed { r ≡ 0 → 0 < l → result ≡ s }
 {
-    let next = smaller(x, y);
+    let next = x.min(y);
     if next <= s {
         return s;
     }

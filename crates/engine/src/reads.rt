@@ -6,8 +6,7 @@ use crate::lists::LIST_ROOM;
 use crate::rows::{Changes, load};
 use crate::starts::tally_list;
 use crate::sweeps::renew_all;
-use card::places::{at_least_one, move_from, place_of};
-use terms::numbers::larger;
+use card::places::{move_from, place_of};
 
 // The total of stretches, its peak, and the peak of one block.
 #[derive(Clone, Copy)]
@@ -23,8 +22,8 @@ fn summed(sums: Sums, changes: Changes) -> Sums
     ensures { ChangesSummed sums changes result }
 {
     let now = sums.now + changes.gained - changes.lost;
-    let most = larger(sums.most, now);
-    let one = larger(sums.one, changes.longest);
+    let most = sums.most.max(now);
+    let one = sums.one.max(changes.longest);
     Sums { now, most, one }
 }
 
@@ -90,7 +89,7 @@ pub fn read(
     ensures summed { SummedMore n key (max 1 priority) blocks.old stretches.old sums result }
     ensures small { (x : ℕ) → get_or counts.new x 0 ≤ get_or counts.old x 0 + 1 }
 {
-    let p = at_least_one(priority);
+    let p = priority.max(1);
     let mut list = [0u16; LIST_ROOM];
     let j = find(blocks, stretches, n, key, &mut list);
     // The list says all that the tallies ask; the compiled code is shorter with them last.

@@ -7,7 +7,6 @@ ghost use Rattle.engine.specs.Renewals.{Fits, Ready, Above, Below, Sinks, RowAt,
 use crate::rows::{
     Changes, Span, close, lower_pair, merge_row, move_nothing, raise_list, row_of, write_row,
 };
-use terms::numbers::larger;
 
 // A read as the rows see it: the size of the largest card, the length of the longest row, the priority in reach, and the place of the block read in the largest card.
 #[derive(Clone, Copy)]
@@ -34,7 +33,7 @@ fn with(changes: Changes, more: Changes) -> Changes
     Changes {
         gained: changes.gained + more.gained,
         lost: changes.lost + more.lost,
-        longest: larger(changes.longest, more.longest),
+        longest: changes.longest.max(more.longest),
     }
 }
 

@@ -6,7 +6,7 @@ ghost use Rattle.engine.specs.Lists.{Begins};
 ghost use Rattle.engine.specs.RowMoves.{InArea, Kept, LoadReady, Loaded, OneWritten, Closed, RowMerged, RowRaised, BothRows, CarriedNone, CarriedDown, CarriedUp, MergeReady, Merged};
 
 use crate::lists::{copy_list, fill, merge, write_pair};
-use terms::LARGEST_SIZE;
+use terms::range::LARGEST_SIZE;
 
 // How the number of stretches changed, and the length of the longest list that was made.
 #[derive(Clone, Copy)]
