@@ -8,7 +8,6 @@ use Rattle.salvage.specs.Listing.{entry_of, entries_of}
 use Rattle.salvage.specs.Answers as answers
 use Rattle.salvage.specs.Answers.{Salvaging}
 use Rattle.salvage.specs.declared.Entry.{Entry}
-use Rattle.salvage.specs.declared.listing.Next.{Next}
 use Rattle.salvage.specs.declared.pieces.Piece.{Piece}
 
 -- a piece of so many bytes as the code tells it: its length, how many of its bytes are kept, its entries, and their number
