@@ -9,7 +9,7 @@ use crate::sweeps::renew_all;
 use card::places::{move_from, place_of};
 
 // The total of stretches, its peak, and the peak of one block.
-#[derive(Clone, Copy)]
+#[derive(Clone, Copy, Debug, Default, PartialEq, Eq)]
 pub struct Sums {
     pub now: usize,
     pub most: usize,
