@@ -121,11 +121,8 @@ fn main(rt: HostRuntime) -> ExitCode {
         Ok(length) => length,
         Err(error) => return fail(&rt, "standard input", error),
     };
-    if let Err(error) = print_sheet(&input[..length], &mut rt.stdout()) {
-        return fail(&rt, "standard output", error);
+    match print_sheet(&input[..length], &mut rt.stdout()).and_then(|()| sync_output(&rt)) {
+        Ok(()) => ExitCode::SUCCESS,
+        Err(error) => fail(&rt, "standard output", error),
     }
-    if let Err(error) = sync_output(&rt) {
-        return fail(&rt, "standard output", error);
-    }
-    ExitCode::SUCCESS
 }
