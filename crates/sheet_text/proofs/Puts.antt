@@ -3,10 +3,10 @@ use mathlib.Core.Path.{◌≡◌, refl, sym, ap, ap₂, subst, ◌∙◌}
 use mathlib.Core.List.{List, [], ◌∷◌, ◌++◌}
 use Prim.Native.Nat.{ℕ, suc, ◌+◌, ◌/◌, ◌%◌, ◌≤◌, ◌<◌}
 use native.Mathlib.Nat.{add-zero}
-use native.Mathlib.Numerals.{add-one}
 use native.Mathlib.Omega.{arith}
 use lib.ListN.{length, get_or, take, set, length-append}
-use lib.Seq.{take-nil, take-suc}
+use lib.Seq.{take-nil}
+use Rattle.std.proofs.lemmas.List.{take_more}
 use Rattle.sheet_text.specs.declared.text.Text.{Text}
 use Rattle.sheet_text.specs.Decimal.{digit, decimal}
 use Rattle.sheet_text.specs.Sheet.{shown}
@@ -68,7 +68,7 @@ pub takes_then : {a b c : Text} {xs ys : List ℕ} → Takes a b xs → Takes b 
 takes_then v w = record { wrote = put_then v.wrote w.wrote; same = w.same ∙ v.same }
 
 pub takes_next : {a b c : Text} (words : List ℕ) (i : ℕ) → Takes a b (take i words) → i < length words → Takes b c (get_or words i 0 ∷ []) → Takes a c (take (i + 1) words)
-takes_next {a} {b} {c} words i v h w = subst (Takes a c) (sym (ap (λ (n : ℕ). take n words) (add-one i) ∙ take-suc words i 0 h)) (takes_then v w)
+takes_next {a} {b} {c} words i v h w = subst (Takes a c) (sym (take_more words i 0 h)) (takes_then v w)
 
 -- ---- a number, which is its tenth and one more digit
 
