@@ -21,7 +21,7 @@ move_block-after-requires c =
     record {
       areas = c.requires.areas;
       keyed = c.requires.keyed;
-      somewhere = omega (arith, c.at_least_one-p.ensures);
+      somewhere = omega (arith, c.max-p.ensures);
       list_wide = omega (arith, find.auto, list_room_lem c.args.n c.requires.areas.within);
       found = find.ensures;
       scratch_wide = c.requires.scratch_wide;
@@ -30,7 +30,7 @@ move_block-after-requires c =
 
 pub returns : goal.returns
 returns c =
-    let one = c.at_least_one-p.ensures in
+    let one = c.max-p.ensures in
     let found = c.find-j.ensures in
     let tallied = c.tally_list.ensures in
     let moved = c.move_block-after.ensures in record {

@@ -5,5 +5,3 @@ use Rattle.engine.proofs.sweeps.above.Given as goal
 abbrev pub invariant-loop-k : goal.invariant-loop-k
 invariant-loop-k l = Rising l.list l.read l.initial.k l.lo l.read.n l.initial.area l.initial.scratch l.initial.sum l.area l.scratch l.sum l.k
 
-abbrev pub decreases-loop-k : goal.decreases-loop-k
-decreases-loop-k l = l.lo - l.k

@@ -4,5 +4,3 @@ use Rattle.engine.proofs.sweeps.below.Given as goal
 abbrev pub invariant-loop-k : goal.invariant-loop-k
 invariant-loop-k l = Sinking l.list l.read l.initial.k l.bottom l.bottom l.initial.area l.initial.scratch l.initial.sum l.area l.scratch l.sum l.k
 
-abbrev pub decreases-loop-k : goal.decreases-loop-k
-decreases-loop-k l = l.k
