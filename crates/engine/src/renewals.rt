@@ -1,7 +1,7 @@
 // The row of one place after a read: it stays, or its list goes one place up or down the card, or the block read is put in.
 ghost use Rattle.std.specs.Prelude.{◌≡◌, true, ◌⊎◌, ℕ, ◌+◌, ◌-◌, ◌^◌, ◌<◌, ◌≤◌, min, length};
 ghost use Rattle.engine.specs.Moves.{Family};
-ghost use Rattle.engine.specs.Rows.{row_length, row_of};
+ghost use Rattle.engine.specs.Rows.{row_length, row_of, stretches_length};
 ghost use Rattle.engine.specs.Renewals.{Fits, Ready, Above, Below, Sinks, RowAt, Renewed, Renews, ChangesBelow, Grown};
 
 use crate::rows::{
@@ -21,7 +21,9 @@ impl RowRead {
     // The row of place k.
     pub fn row(self, k: u16) -> Span
         requires { (0 < k) × (self.n < 65535) × (self.width ≡ row_length self.n) }
-        ensures { result ≡ row_of self.n k }
+        ensures lies { result ≡ row_of self.n k }
+        ensures inside { k ≤ self.n → (2 ≤ result.room) × (result.start + result.room ≤ stretches_length self.n) }
+        ensures short { (result.room ≤ self.width) × (result.room < 2 ^ 16) }
     {
         Span::of(self.width, k as usize)
     }
