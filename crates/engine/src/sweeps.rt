@@ -1,5 +1,5 @@
 // One read on all rows: those above and below the blocks that move stay unless the read touches their list, and the others go one place up or down.
-ghost use Rattle.std.specs.Prelude.{◌≡◌, ◌⊎◌, ℕ, ◌+◌, ◌-◌, ◌^◌, ◌<◌, ◌≤◌, min, length};
+ghost use Rattle.std.specs.Prelude.{◌≡◌, ◌⊎◌, ℕ, ◌+◌, ◌-◌, ◌^◌, ◌<◌, ◌≤◌, length};
 ghost use Rattle.engine.specs.Renewals.{Fits, Ready, Above, Sinks, Grown};
 ghost use Rattle.engine.specs.Sweeps.{Lower, Leads, AllRenewed, Leaves, AllReady, RenewReady, RowsRenewed, TotalChanged, LongestMade};
 
@@ -174,11 +174,11 @@ fn leaving(area: &[u16], list: &[u16], read: RowRead) -> usize
     if 0 < read.j {
         return count_entries(list, read.row(read.j).room) / 2;
     }
-    if read.n < read.p || area[read.row(read.n).start] == 0 {
-        0
-    } else {
-        1
+    if read.n < read.p {
+        return 0;
     }
+    let last = area[read.row(read.n).start];
+    if last == 0 { 0 } else { 1 }
 }
 
 // All rows after a read at p of the block whose list is given, and which stood at place j of the largest card, or is put in there.
