@@ -148,11 +148,7 @@ fn lowered_first(first: u16, s: u16) -> u16
     requires { s < 65535 }
     ensures { result ≡ cond (eqb first s) (first + 1) first }
 {
-    if first == s {
-        first + 1
-    } else {
-        first
-    }
+    if first == s { first + 1 } else { first }
 }
 
 // The list of place s, where it has one stretch, goes one place down the card; answers whether it had.

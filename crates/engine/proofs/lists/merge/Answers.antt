@@ -4,7 +4,6 @@ use mathlib.Core.Path.{◌≡◌, refl, sym, ◌∙◌, subst}
 use mathlib.Core.List.{List}
 use Prim.Native.Nat.{ℕ, ◌+◌, ◌≤◌}
 use native.Mathlib.Numerals.{add-one}
-use lib.ListN.{length}
 use Rattle.engine.specs.Moves.{other_after}
 use Rattle.engine.specs.Lists.{Over, ListedUpTo}
 use Rattle.engine.specs.declared.lists.Cursor.{Cursor}
