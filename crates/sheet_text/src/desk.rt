@@ -11,6 +11,7 @@ use terms::{Fault, Refusal};
 pub const LARGEST_INPUT: usize = 16384;
 
 // The sheet of an input, where that is not too long.
+#[tactic(auto, unfolding(crate::specs::Desk::desk_sheet_of, crate::specs::Desk::areas_after))]
 pub fn desk_sheet(
     trace: &[u8],
     blocks: &mut [u64],
