@@ -11,6 +11,7 @@ ghost use Rattle.supharoek.specs.Told.{Tells, header_told, record_told, writing_
 use crate::told::{Refused, tell};
 use terms::range::LARGEST_SIZE;
 
+#[tactic(auto, unfolding(terms::specs::Ranges::size))]
 fn header_values(trace: &[u8]) -> Result<[u64; 3], Refused>
     ensures { told_of result ≡ header_told (header_at size.largest trace.now 0) }
 {
