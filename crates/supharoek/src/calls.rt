@@ -1,4 +1,6 @@
 // The calls on traces: headers, records, the run and the sheet.
+//
+// What a call tells is found by a function of its own, where `?` makes one kind of refusal of all.
 ghost use Rattle.std.specs.Prelude.{◌≡◌, length};
 ghost use Rattle.terms.specs.Ranges.{size};
 ghost use Rattle.terms.specs.Reads.{read_of};
@@ -11,6 +13,7 @@ ghost use Rattle.supharoek.specs.Told.{Tells, header_told, record_told, writing_
 use crate::told::{Refused, tell};
 use terms::range::LARGEST_SIZE;
 
+#[tactic(auto, unfolding(terms::specs::Ranges::size))]
 fn header_values(trace: &[u8]) -> Result<[u64; 3], Refused>
     ensures { told_of result ≡ header_told (header_at size.largest trace.now 0) }
 {

@@ -7,17 +7,9 @@ ghost use Rattle.supharoek.specs.Ratios.{ratio_number, ratio_after};
 
 use crate::told::{Refused, tell};
 use card::step::{Card, step};
-use terms::range::LARGEST_SIZE;
 use terms::{Fault, Refusal};
 
-// Fewer places than a state has, or counts than there are outcomes.
-fn no_room() -> Refused {
-    Refused::from(Fault {
-        refusal: Refusal::Room,
-        place: 0,
-    })
-}
-
+#[tactic(auto, unfolding(terms::specs::Ranges::size, crate::specs::Told::step_call, crate::specs::Told::places_after))]
 fn step_values(
     size: usize,
     places: &mut [u64],
@@ -28,16 +20,20 @@ fn step_values(
     ensures told { told_of result ≡ step_call size places.old volume block priority }
     ensures places { places.new ≡ places_after size places.old volume block priority }
 {
-    if places.len() < LARGEST_SIZE {
-        return Err(no_room());
-    }
-    let mut card = Card {
-        size,
-        places: [0; LARGEST_SIZE],
+    let Some(lent) = places.first_chunk_mut() else {
+        return Err(Refused {
+            refusal: Refusal::Room,
+            place: Some(0),
+        });
     };
-    card.places.copy_from_slice(&places[..LARGEST_SIZE]);
+    let given = *lent;
+    let card = Card {
+        size,
+        places: given,
+    };
     let stepped = step(card, volume, block, priority);
-    places[..LARGEST_SIZE].copy_from_slice(&stepped.card.places);
+    let left = stepped.card.places;
+    *lent = left;
     let outcome = stepped.answer?;
     Ok([u64::from(u32::from(outcome)), u64::from(outcome.is_hit())])
 }
@@ -63,10 +59,11 @@ fn count_values(outcome: u32, counts: &mut [u64]) -> Result<[u64; 1], Refused>
     ensures told { told_of result ≡ count_told (counting_of outcome counts.old) }
     ensures counts { counts.new ≡ counts_after outcome counts.old }
 {
-    match card::counting::add_outcome(outcome, counts) {
-        Ok(added) => Ok([added]),
-        Err(refusal) => Err(Refused::from(Fault { refusal, place: 0 })),
-    }
+    let added = card::counting::add_outcome(outcome, counts).map_err(|refusal| Fault {
+        refusal,
+        place: 0,
+    })?;
+    Ok([added])
 }
 
 // Adds an outcome to the six counts of a card, and tells how many were added. Fewer counts are refused as too little room, and

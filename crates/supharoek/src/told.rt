@@ -1,8 +1,8 @@
 // The values that a call tells, and the number that it answers.
-ghost use Rattle.std.specs.Prelude.{◌≡◌, None, Some};
-ghost use Rattle.terms.specs.declared.Refusal.TheVariants.{Space};
+ghost use Rattle.std.specs.Prelude.{◌≡◌, None, Some, Err};
+ghost use Rattle.salvage.specs.Answers.{salvaged_answer};
 ghost use Rattle.sheet_text.specs.Sheet.{shown};
-ghost use Rattle.supharoek.specs.Told.{Tells, told_of};
+ghost use Rattle.supharoek.specs.Told.{Tells, salvage_told, told_of};
 
 use salvage::Unsalvaged;
 use terms::{Fault, Refusal};
@@ -15,6 +15,8 @@ pub struct Refused {
 }
 
 impl From<Refusal> for Refused {
+    ghost from_gives = { λ refusal refused. refused ≡ record { refusal = refusal; place = None } };
+
     fn from(refusal: Refusal) -> Refused {
         Refused {
             refusal,
@@ -24,6 +26,8 @@ impl From<Refusal> for Refused {
 }
 
 impl From<Fault> for Refused {
+    ghost from_gives = { λ fault refused. refused ≡ record { refusal = fault.refusal; place = Some fault.place } };
+
     fn from(fault: Fault) -> Refused {
         Refused {
             refusal: fault.refusal,
@@ -33,6 +37,8 @@ impl From<Fault> for Refused {
 }
 
 impl From<Unsalvaged> for Refused {
+    ghost from_gives = { λ unsalvaged refused. told_of (Err refused) ≡ salvage_told (salvaged_answer (Err unsalvaged)) };
+
     fn from(unsalvaged: Unsalvaged) -> Refused {
         match unsalvaged {
             Unsalvaged::Header(fault) => Refused::from(fault),
@@ -51,7 +57,7 @@ fn show(out: &mut [u64], values: &[u64])
 
 // Tells what a call found, or why it is refused, and answers the refusal's number, 0 where nothing is refused.
 pub fn tell<const N: usize>(out: &mut [u64], found: Result<[u64; N], Refused>) -> u32
-    ensures { Tells (told_of found) result out.old out.new }
+    ensures { Tells (told_of found.entry) result out.old out.new }
 {
     match found {
         Ok(values) => {
