@@ -1,4 +1,6 @@
 // The calls on traces: headers, records, the run and the sheet.
+//
+// What a call tells is found by a function of its own, where `?` makes one kind of refusal of all.
 ghost use Rattle.std.specs.Prelude.{◌≡◌, length};
 ghost use Rattle.terms.specs.Ranges.{size};
 ghost use Rattle.terms.specs.Reads.{read_of};

@@ -4,7 +4,7 @@ use mathlib.Core.List.{List, ◌++◌}
 use Prim.Native.Nat.{ℕ}
 use borrow.Author.Rules.{rules}
 use borrow.Author.Tests.{le-leb}
-use lib.ListN.{length, take, drop}
+use lib.ListN.{length, drop}
 use Rattle.core.specs.Array.{IsFirstChunk}
 use Rattle.terms.specs.Ranges.{size}
 use Rattle.card.specs.State.{step_of}
