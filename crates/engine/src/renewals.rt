@@ -2,7 +2,7 @@
 ghost use Rattle.std.specs.Prelude.{◌≡◌, true, ◌⊎◌, ℕ, ◌+◌, ◌-◌, ◌^◌, ◌<◌, ◌≤◌, min, length};
 ghost use Rattle.engine.specs.Moves.{Family};
 ghost use Rattle.engine.specs.Rows.{row_length, row_of, stretches_length};
-ghost use Rattle.engine.specs.Renewals.{Fits, Ready, Above, Below, Sinks, RowAt, Renewed, Renews, ChangesBelow, Grown};
+ghost use Rattle.engine.specs.Renewals.{Fits, Ready, Above, Below, Sinks, RowAt, Renewed, Renews, ChangesBelow, Grown, Together};
 
 use crate::rows::{
     Changes, Span, close, lower_pair, merge_row, move_nothing, raise_list, write_row,
@@ -26,6 +26,20 @@ impl RowRead {
         ensures short { (result.room ≤ self.width) × (result.room < 2 ^ 16) }
     {
         Span::of(self.width, k as usize)
+    }
+}
+
+impl Changes {
+    // Both together.
+    fn with(self, more: Changes) -> Changes
+        requires { (self.gained + more.gained < 2 ^ 64) × (self.lost + more.lost < 2 ^ 64) }
+        ensures { Together self more result }
+    {
+        Changes {
+            gained: self.gained + more.gained,
+            lost: self.lost + more.lost,
+            longest: self.longest.max(more.longest),
+        }
     }
 }
 

@@ -3,7 +3,6 @@ ghost use Rattle.std.specs.Prelude.{◌≡◌, true, false, cond, ℕ, ◌+◌, 
 ghost use Rattle.terms.specs.Ranges.{size};
 ghost use Rattle.engine.specs.Rows.{pairs, row_length, row_of, stretches_length, span, Row};
 ghost use Rattle.engine.specs.Lists.{Begins};
-ghost use Rattle.engine.specs.Renewals.{Together};
 ghost use Rattle.engine.specs.RowMoves.{InArea, Kept, LoadReady, Loaded, OneWritten, Closed, RowMerged, RowRaised, BothRows, CarriedNone, CarriedDown, CarriedUp, MergeReady, Merged};
 
 use crate::lists::{copy_list, fill, merge, write_pair};
@@ -16,20 +15,6 @@ pub struct Changes {
     pub gained: usize,
     pub lost: usize,
     pub longest: usize,
-}
-
-impl Changes {
-    // Both together.
-    pub fn with(self, more: Changes) -> Changes
-        requires { (self.gained + more.gained < 2 ^ 64) × (self.lost + more.lost < 2 ^ 64) }
-        ensures { Together self more result }
-    {
-        Changes {
-            gained: self.gained + more.gained,
-            lost: self.lost + more.lost,
-            longest: self.longest.max(more.longest),
-        }
-    }
 }
 
 // Where a row starts in the stretch area, and how many numbers it has room for.

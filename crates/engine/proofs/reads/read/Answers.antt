@@ -29,14 +29,9 @@ move_block-after-requires c =
       underway = c.requires.underway;
     }
 
-pub returns : goal.returns
-returns c =
-    let one = c.max-p.ensures ∙ max_comm c.args.priority 1 in
-    let found = c.find-j.ensures in
-    let tallied = c.tally_list.ensures in
-    let moved = c.move_block-after.ensures in record {
-      held = (λ rs r ek ew held. moved.held rs r ek (ew ∙ sym one) held);
-      tallied = (λ rs held. tallied_found _ _ _ _ _ rs _ _ _ c.requires.keyed (found rs held) tallied.tallied one);
-      summed = (λ rs r ek ew held covered. moved.summed rs r ek (ew ∙ sym one) held covered);
-      small = tallied.small;
-    }
+pub returns-clause-tallied : goal.returns-clause-tallied
+returns-clause-tallied c rs held =
+    tallied_found _ _ _ _ _ rs _ _ _ c.requires.keyed (c.find-j.ensures rs held) c.tally_list.ensures.tallied (c.max-p.ensures ∙ max_comm c.args.priority 1)
+
+pub returns-clause-summed : goal.returns-clause-summed
+returns-clause-summed c rs r ek ew held covered = c.move_block-after.ensures.summed rs r ek (ew ∙ max_comm 1 c.args.priority ∙ sym c.max-p.ensures) held covered
