@@ -14,7 +14,7 @@ use std::io::{ErrorKind, Read, Write};
 use std::process::ExitCode;
 use std::rt::Files;
 use std::{fs, io};
-use terms::LARGEST_SIZE;
+use terms::range::LARGEST_SIZE;
 
 // No sheet is longer.
 const LONGEST_SHEET: usize = 32768;

@@ -5,8 +5,8 @@ ghost use Rattle.sheet_text.specs.Desk.{desk_sheet_of, areas_after};
 ghost use Rattle.sheet_text.specs.Sheet.{longest_sheet, Shows};
 
 use crate::sheet::sheet;
-use crate::text::put_refused;
-use terms::{Refusal, refusal_number};
+use crate::text::Text;
+use terms::{Fault, Refusal};
 
 pub const LARGEST_INPUT: usize = 16384;
 
@@ -24,7 +24,12 @@ pub fn desk_sheet(
         blocks.new stretches.new counts.new }
 {
     if LARGEST_INPUT < trace.len() {
-        return put_refused(text, refusal_number(Refusal::Large), LARGEST_INPUT);
+        let mut text = Text::new(text);
+        text.put_refused(Fault {
+            refusal: Refusal::Large,
+            place: LARGEST_INPUT,
+        });
+        return text.length();
     }
     sheet(trace, blocks, stretches, counts, text)
 }

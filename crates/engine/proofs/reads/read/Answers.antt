@@ -1,6 +1,7 @@
 -- `engine::reads::read` meets its contract: a block is found, moved and tallied. Assumes nothing.
 use mathlib.Core.Path.{sym, ◌∙◌}
 use native.Mathlib.Omega.{arith}
+use native.Mathlib.Nat.{max_comm}
 use Rattle.terms.proofs.Areas.{zeros_at}
 use Rattle.engine.proofs.reads.ReadLaws.{tallied_found}
 use Rattle.engine.proofs.Widths.{list_room, list_room_lem}
@@ -21,7 +22,7 @@ move_block-after-requires c =
     record {
       areas = c.requires.areas;
       keyed = c.requires.keyed;
-      somewhere = omega (arith, c.at_least_one-p.ensures);
+      somewhere = omega (arith, c.max-p.ensures);
       list_wide = omega (arith, find.auto, list_room_lem c.args.n c.requires.areas.within);
       found = find.ensures;
       scratch_wide = c.requires.scratch_wide;
@@ -30,7 +31,7 @@ move_block-after-requires c =
 
 pub returns : goal.returns
 returns c =
-    let one = c.at_least_one-p.ensures in
+    let one = c.max-p.ensures ∙ max_comm c.args.priority 1 in
     let found = c.find-j.ensures in
     let tallied = c.tally_list.ensures in
     let moved = c.move_block-after.ensures in record {

@@ -19,17 +19,17 @@ overflow_cast-read c = omega (arith, list_room_lem c.args.n c.requires.in_range)
 pub row_length-requires : goal.row_length-requires
 row_length-requires c = omega (arith, list_room_lem c.args.n c.requires.in_range)
 
-pub priority_of-requires : goal.priority_of-requires
-priority_of-requires c = omega (arith, list_room_lem c.args.n c.requires.in_range)
-
 pub overflow_cast-read-2 : goal.overflow_cast-read-2
-overflow_cast-read-2 c = omega (arith, list_room_lem c.args.n c.requires.in_range, c.requires.within)
+overflow_cast-read-2 c = omega (arith, list_room_lem c.args.n c.requires.in_range, c.min.ensures)
+
+pub overflow_cast-read-3 : goal.overflow_cast-read-3
+overflow_cast-read-3 c = omega (arith, list_room_lem c.args.n c.requires.in_range, c.requires.within)
 
 pub leaving-requires : goal.leaving-requires
 leaving-requires c =
     let pre = c.requires in
     let low = list_room_lem c.args.n pre.in_range in
-    let reach = c.priority_of.ensures in
+    let reach = c.min.ensures in
     let ew = c.row_length.ensures in
     (record { read_at = omega (arith, pre.read_at); some = pre.some; narrow = omega arith; wide = ew; room = pre.room }, pre.within, omega (arith, pre.listed))
 
@@ -37,7 +37,7 @@ pub renew_rows-requires : goal.renew_rows-requires
 renew_rows-requires c =
     let pre = c.requires in
     let low = list_room_lem c.args.n pre.in_range in
-    let reach = c.priority_of.ensures in
+    let reach = c.min.ensures in
     let ew = c.row_length.ensures in
     let left = c.leaving.ensures.range in (
       record {
@@ -59,8 +59,8 @@ returns c =
     let pre = c.requires in
     let n = at.n in
     let re = c.renew_rows.ensures in
-    let p = c.priority_of.result in
-    let reach = c.priority_of.ensures in
+    let p = c.min.result in
+    let reach = c.min.ensures in
     let same : (J : ℕ → ℕ) (L : ℕ → ℕ → ℕ) (k : ℕ) → k ≤ n → (m : ℕ) → m ≤ n → new_of J p at.j L k m ≡ new_of J at.p at.j L k m = λ J L k b m hm. clamped J at.j L n k m b hm at.p p reach in
     let counts : (J : ℕ → ℕ) (L : ℕ → ℕ → ℕ) (k : ℕ) → 1 ≤ k → k ≤ n → stretches (new_of J p at.j L k) n ≡ stretches (new_of J at.p at.j L k) n = λ J L k a b. stretches_same (new_of J p at.j L k) (new_of J at.p at.j L k) n (same J L k b) in record {
       rows = (λ J L f k a b. row_same (new_of J p at.j L k) (new_of J at.p at.j L k) n (same J L k b) ((re.renewed J L (found_finds _ _ _ J L f) f.rows).0 k a b));
