@@ -13,7 +13,7 @@ outcome_number HitBypass = 3
 outcome_number Insert = 4
 outcome_number MissBypass = 5
 
--- the outcome of a number; a number that is past the last outcome's has none
+-- the outcome of a number; a number that is past the last outcome's has none, and is told
 abbrev pub Numbered : ℕ → Result Outcome NoOutcome → Type 0
 Numbered number (Ok outcome) = number ≡ outcome_number outcome
-Numbered number (Err none) = 6 ≤ number
+Numbered number (Err none) = (none.0 ≡ number) × (6 ≤ number)

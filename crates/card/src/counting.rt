@@ -11,27 +11,23 @@ use terms::Refusal;
 const OUTCOMES: usize = 6;
 
 // Whether a number is that of a hit; a number that is no outcome's is none.
+#[tactic(auto, using(crate::proofs::counting::Cases::hit_past))]
 pub fn is_hit(outcome: u32) -> bool
     ensures { result ≡ is_hit outcome }
 {
-    Outcome::try_from(outcome).is_ok_and(|outcome| outcome.is_hit())
+    Outcome::try_from(outcome).is_ok_and(Outcome::is_hit)
 }
 
 // The slot of an outcome in the counts.
+#[tactic(auto, unfolding(crate::specs::Counts::slot_of))]
 fn slot_of(outcome: Outcome) -> usize
     ensures { result ≡ slot_of (outcome_number outcome) }
 {
-    match outcome {
-        Outcome::Up => 0,
-        Outcome::Same => 1,
-        Outcome::Down => 2,
-        Outcome::HitBypass => 3,
-        Outcome::Insert => 4,
-        Outcome::MissBypass => 5,
-    }
+    outcome as usize
 }
 
 // Adds an outcome to the counts, and answers how many were added: none where the number is no outcome, or its count is full. What lies past the six is kept.
+#[tactic(auto, using(crate::proofs::counting::Cases::slots), unfolding(crate::specs::Counts::counting_of, crate::specs::Counts::counts_after))]
 pub fn add_outcome(outcome: u32, counts: &mut [u64]) -> Result<u64, Refusal>
     ensures { (counted_answer result ≡ counting_of outcome counts.old) × (counts.new ≡ counts_after outcome counts.old) }
 {

@@ -20,17 +20,14 @@ pub struct NoOutcome(pub u32);
 
 impl Outcome {
     // Whether it is a hit; a hit bypass is one.
+    #[tactic(auto, unfolding(crate::specs::Counts::is_hit))]
     pub fn is_hit(self) -> bool
         ensures { result ≡ is_hit (outcome_number self) }
     {
-        match self {
-            Outcome::Up => true,
-            Outcome::Same => true,
-            Outcome::Down => true,
-            Outcome::HitBypass => true,
-            Outcome::Insert => false,
-            Outcome::MissBypass => false,
-        }
+        matches!(
+            self,
+            Outcome::Up | Outcome::Same | Outcome::Down | Outcome::HitBypass
+        )
     }
 }
 

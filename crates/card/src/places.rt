@@ -13,6 +13,7 @@ const VOLUMES: u64 = 65536;
 const BLOCKS: u64 = 4294967296;
 
 // The key of a block; a volume or a block past its range counts from 0 again.
+#[tactic(auto, unfolding(crate::specs::Rule::key_of, terms::specs::Ranges::volume, terms::specs::Ranges::block))]
 pub fn key_of(v: u64, b: u64) -> u64
     ensures { result ≡ key_of (v % suc volume.largest) (b % suc block.largest) }
 {
@@ -29,6 +30,7 @@ pub fn place_of(card: &[u64], key: u64) -> usize
 }
 
 // The outcome of a read on a card of some size, for a block at place j and a priority p.
+#[tactic(auto, unfolding(crate::specs::Rule::outcome))]
 fn outcome_of(size: usize, j: usize, p: usize) -> Outcome
     ensures { outcome_number result ≡ outcome size j p }
 {
@@ -47,6 +49,7 @@ fn outcome_of(size: usize, j: usize, p: usize) -> Outcome
 }
 
 // A key comes to the first place, and the places up to the last shift one lower, in one sweep.
+#[tactic(auto, using(crate::proofs::places::Copies::lowered_copy))]
 fn lower(card: &mut [u64], first: usize, last: usize, key: u64)
     requires { (1 ≤ first) × (first ≤ last) × (last ≤ length card.old) }
     ensures { card.new ≡ lowered card.old first last key }
@@ -56,6 +59,7 @@ fn lower(card: &mut [u64], first: usize, last: usize, key: u64)
 }
 
 // The places up to the last shift one higher, over the first, and a key comes to the last, in one sweep.
+#[tactic(auto, using(crate::proofs::places::Copies::raised_copy))]
 fn raise(card: &mut [u64], first: usize, last: usize, key: u64)
     requires { (1 ≤ first) × (first ≤ last) × (last ≤ length card.old) }
     ensures { card.new ≡ raised card.old first last key }
@@ -65,6 +69,7 @@ fn raise(card: &mut [u64], first: usize, last: usize, key: u64)
 }
 
 // The shift that an outcome stands for.
+#[tactic(auto, unfolding(crate::specs::Rule::outcome))]
 fn shift(card: &mut [u64], kind: Outcome, j: usize, p: usize, key: u64)
     requires { (outcome_number kind ≡ outcome (length card.old) j p) × (1 ≤ p) × (j ≤ length card.old) }
     ensures { card.new ≡ get_or (effects card.old key j p) (outcome_number kind) card.old }
@@ -82,6 +87,7 @@ fn shift(card: &mut [u64], kind: Outcome, j: usize, p: usize, key: u64)
 
 // The second half of a read, for a block that was found at place j; a place past the last is none, and nothing moves.
 // A read without a hint has priority 0, and comes to the top.
+#[tactic(auto, unfolding(crate::specs::Rule::moved_from))]
 pub fn move_from(card: &mut [u64], key: u64, j: usize, priority: usize)
     ensures { card.new ≡ moved_from card.old key j (max 1 priority) }
 {
@@ -94,6 +100,7 @@ pub fn move_from(card: &mut [u64], key: u64, j: usize, priority: usize)
 }
 
 // One read on a card of any size: its outcome.
+#[tactic(auto, using(crate::proofs::OutcomeCases::moved_read))]
 pub fn read(card: &mut [u64], key: u64, priority: usize) -> Outcome
     ensures { (outcome_number result ≡ outcome_on card.old key (max 1 priority)) × (card.new ≡ after_read card.old key (max 1 priority)) }
 {

@@ -7,6 +7,7 @@ ghost use Rattle.card.specs.Answers.{ratio_answer};
 const LARGEST_EXACT: u64 = 9007199254740992;
 
 // Misses over reads, or none where that is no ratio.
+#[tactic(auto, unfolding(crate::specs::Ratio::ratio_of))]
 pub fn miss_ratio(misses: u64, reads: u64) -> Option<f64>
     ensures { ratio_answer result ≡ ratio_of misses reads }
 {

@@ -31,10 +31,7 @@ fn summed(sums: Sums, changes: Changes) -> Sums
 fn is_bypass(n: usize, p: usize, j: usize) -> bool
     ensures { (result ≡ true → (j ≡ 0) × (n < p)) × (result ≡ false → j ≡ 0 → p ≤ n) }
 {
-    if 0 < j {
-        return false;
-    }
-    n < p
+    j == 0 && n < p
 }
 
 // The place of a block in the largest card, 0 where it is in no card; its stretches come into the list.

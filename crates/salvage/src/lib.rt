@@ -1,7 +1,7 @@
 // Salvage: a good trace from one with bad records, and a list of what was left out.
 #![tactic(auto)]
 
-ghost use Rattle.std.specs.Prelude.{◌≡◌, ◌≤◌, length};
+ghost use Rattle.std.specs.Prelude.{◌≡◌, length};
 ghost use Rattle.salvage.specs.Good.{good_of};
 ghost use Rattle.salvage.specs.Listing.{list_of};
 ghost use Rattle.salvage.specs.Answers.{salvaging, salvaged_answer, area_after};
@@ -40,6 +40,7 @@ pub enum Unsalvaged {
 }
 
 // Writes the header and the records that can be kept, and lists the rest.
+#[tactic(auto, using(crate::proofs::WaysOut::header_refused), unfolding(terms::specs::Ranges::size))]
 pub fn salvage(trace: &[u8], out: &mut [u8], list: &mut [Entry]) -> Result<Salvaged, Unsalvaged>
     ensures { (salvaged_answer result ≡ salvaging trace.now (length out.old) (length list.old))
         × ((out.new ≡ area_after (salvaged_answer result) (good_of trace.now) out.old)

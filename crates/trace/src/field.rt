@@ -9,13 +9,14 @@ use terms::range::Range;
 
 // A value in its range, and the place after its number.
 #[derive(Clone, Copy, Debug, PartialEq, Eq)]
-pub struct Field {
+pub(crate) struct Field {
     pub value: u64,
     pub end: usize,
 }
 
 // The number at a place of a part, which is to be in a range.
-pub fn read_field(part: &[u8], at: usize, range: Range) -> Result<Field, Fault>
+#[tactic(auto, using(crate::proofs::Fields::number_end))]
+pub(crate) fn read_field(part: &[u8], at: usize, range: Range) -> Result<Field, Fault>
     ensures { field_answer result ≡ field range part.now at (λ value end. Given value end) }
 {
     let told = |refusal| Fault { refusal, place: at };

@@ -32,6 +32,7 @@ fn after_byte(byte: u8, rest: Number) -> Result<Number, Refusal>
     })
 }
 
+#[tactic(auto, using(crate::proofs::number::Laws::number_laws))]
 fn number_from(part: &[u8], at: usize, left: usize) -> Result<Number, Refusal>
     requires { left ≤ bytes_before }
     ensures { number_answer result ≡ numeral top_byte left (drop at part.now) }

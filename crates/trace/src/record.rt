@@ -22,6 +22,7 @@ pub struct Record {
 }
 
 // The record at the front of a part, its volume and its priority in these ranges.
+#[tactic(auto, unfolding(crate::specs::Reading::placed_in))]
 fn record_in(part: &[u8], volumes: Range, priorities: Range) -> Result<Record, Fault>
     ensures { record_answer result ≡ placed_in volumes priorities part.now 0 }
 {
@@ -37,6 +38,7 @@ fn record_in(part: &[u8], volumes: Range, priorities: Range) -> Result<Record, F
     })
 }
 
+#[tactic(auto, unfolding(crate::specs::Reading::placed_at))]
 pub fn read_record(part: &[u8]) -> Result<Record, Fault>
     ensures { record_answer result ≡ placed_at part.now 0 }
 {
@@ -44,6 +46,7 @@ pub fn read_record(part: &[u8]) -> Result<Record, Fault>
 }
 
 // The same reading with the ranges wide open: it tells where a record of well-formed numbers ends.
+#[tactic(auto, unfolding(crate::specs::Reading::formed_at, terms::specs::Ranges::volume, terms::specs::Ranges::priority))]
 pub fn read_form(part: &[u8]) -> Result<Record, Fault>
     ensures { record_answer result ≡ formed_at part.now 0 }
 {
@@ -56,6 +59,7 @@ pub fn read_form(part: &[u8]) -> Result<Record, Fault>
 }
 
 // The part after one record, or the whole part where that is refused.
+#[tactic(auto, using(crate::proofs::Ends::placed_end), unfolding(crate::specs::Reading::record_at))]
 pub fn rest(part: &[u8]) -> &[u8]
     ensures { (result.now ≡ drop (rest_start (record_at part.now 0)) part.now)
         × (result.ref_ptr ≡ onwards (rest_start (record_at part.now 0)) part.entry.ref_ptr) }
@@ -74,6 +78,7 @@ fn values_of(volume: u64, block: u32, priority: u64) -> [u64; 3]
 }
 
 // Writes a record into a buffer from an offset on; answers its length.
+#[tactic(auto, unfolding(crate::specs::Writing::record_writing, terms::specs::Ranges::volume, terms::specs::Ranges::block, terms::specs::Ranges::priority, crate::specs::Bounds::number_limit))]
 pub fn write_record(
     buffer: &mut [u8],
     at: usize,

@@ -8,6 +8,7 @@ ghost use Rattle.trace.specs.Bounds.{number_limit, Spelled};
 use terms::Refusal;
 
 // How many bytes a number takes.
+#[tactic(auto, using(crate::proofs::spelling::Laws::length_laws))]
 fn number_length(value: u64) -> usize
     requires { value < number_limit }
     ensures { result ≡ length (spelling value) }
@@ -22,6 +23,7 @@ fn number_length(value: u64) -> usize
 }
 
 // Writes a number at the front of a part, and answers how many bytes it takes.
+#[tactic(auto, using(crate::proofs::spelling::Laws::written_laws))]
 fn write_number(part: &mut [u8], value: u64) -> usize
     requires { (value < number_limit) × (length (spelling value) ≤ length part.old) }
     ensures { (result ≡ length (spelling value)) × (part.new ≡ put part.old 0 (spelling value)) }
@@ -38,18 +40,16 @@ fn write_number(part: &mut [u8], value: u64) -> usize
 }
 
 // How many bytes the values take.
+#[tactic(auto, using(crate::proofs::spelling::Laws::length_laws))]
 fn numbers_length(values: &[u64]) -> usize
     requires { Spelled values.now }
     ensures { result ≡ length (spellings values.now) }
 {
-    let mut total: usize = 0;
-    for value in values {
-        total += number_length(*value);
-    }
-    total
+    values.iter().map(|value| number_length(*value)).sum()
 }
 
 // Each number goes into the part of the buffer where the one before it ended.
+#[tactic(auto, using(crate::proofs::spelling::Laws::one_more_laws))]
 fn put_numbers(buffer: &mut [u8], at: usize, values: &[u64])
     requires { Spelled values.now × (at + length (spellings values.now) ≤ length buffer.old) }
     ensures { buffer.new ≡ put buffer.old at (spellings values.now) }
@@ -61,7 +61,7 @@ fn put_numbers(buffer: &mut [u8], at: usize, values: &[u64])
 }
 
 // Writes the values from an offset on, if they fit there.
-pub fn write_numbers(buffer: &mut [u8], at: usize, values: &[u64]) -> Result<usize, Refusal>
+pub(crate) fn write_numbers(buffer: &mut [u8], at: usize, values: &[u64]) -> Result<usize, Refusal>
     requires { Spelled values.now }
     ensures { (written_answer result ≡ spaced (length buffer.old) at (length (spellings values.now)))
         × (buffer.new ≡ buffer_after (written_answer result) buffer.old at (spellings values.now)) }
