@@ -5,7 +5,7 @@ use native.Mathlib.Numerals.{add-one}
 use native.Mathlib.Omega.{arith}
 use Prim.Native.Nat.{ℕ, zero, suc, ◌+◌, ◌*◌, ◌<◌, ◌≤◌}
 use lib.ListN.{length, get_or}
-use Rattle.core.specs.List.{slice_range, slice_index}
+use Rattle.std.specs.List.{slice_range, slice_index}
 use Rattle.std.proofs.lemmas.Grind.{common_steps}
 use Rattle.counts.specs.Columns.{columns, counts_length}
 use Rattle.sheet_text.specs.declared.text.Text.{Text}
