@@ -7,6 +7,9 @@ use crate::lists::count_entries;
 use crate::renewals::{RowRead, above_row, below_row, down_row, own_row, up_row};
 use crate::rows::{Changes, row_length};
 
+// The area, the lists and the changes go together through all of these. They are parameters: one struct of them with methods proves too, and was tried, but
+// took 1.10 times the instructions of a read at N = 127 in the geometric mean, and up to 1.24.
+
 // The rows above p and the block read, from the first one on.
 fn above(
     area: &mut [u16],
@@ -44,8 +47,8 @@ fn below(
         return changes;
     }
     let mut sum = changes;
-    for k in (bottom + 1..=read.n).rev() {
-        sum = below_row(area, list, scratch, read, k, sum);
+    for above in (bottom..read.n).rev() {
+        sum = below_row(area, list, scratch, read, above + 1, sum);
     }
     sum
 }
@@ -64,8 +67,8 @@ fn down(
     ensures leads { (a : ℕ) → a < read.p → Leads list.now read a bottom changes area.old a read.p result area.new }
 {
     let mut sum = changes;
-    for k in (read.p + 1..=bottom).rev() {
-        sum = down_row(area, list, scratch, read, k, sum);
+    for above in (read.p..bottom).rev() {
+        sum = down_row(area, list, scratch, read, above + 1, sum);
     }
     sum
 }

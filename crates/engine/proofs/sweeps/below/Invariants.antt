@@ -3,5 +3,5 @@ use Rattle.engine.specs.Renewals.{Grown}
 use Rattle.engine.specs.Sweeps.{Leads}
 use Rattle.engine.proofs.sweeps.below.Given as goal
 
-abbrev pub invariant-loop-k : goal.invariant-loop-k
-invariant-loop-k l = (l.bottom ≤ l.k) × Grown l.initial.sum l.sum ((l.read.n - l.k) * 2 ^ 16) × ((a : ℕ) → a ≤ l.bottom → Leads l.list l.read a l.read.n l.initial.sum l.initial.area a l.k l.sum l.area)
+abbrev pub invariant-loop-above : goal.invariant-loop-above
+invariant-loop-above l = (l.bottom ≤ l.above) × Grown l.initial.sum l.sum ((l.read.n - l.above) * 2 ^ 16) × ((a : ℕ) → a ≤ l.bottom → Leads l.list l.read a l.read.n l.initial.sum l.initial.area a l.above l.sum l.area)
