@@ -20,13 +20,19 @@ pub fn key_of(v: u64, b: u64) -> u64
     v % VOLUMES * BLOCKS + b % BLOCKS + 1
 }
 
-// The place of a block, 0 where it is not there.
+// The place of a block, 0 where it is not there; by fours first, because the search is a large part of a read.
 pub fn place_of(card: &[u64], key: u64) -> usize
     ensures { result ≡ place card.now key }
 {
-    card.iter()
+    let fours = card
+        .chunks_exact(4)
+        .position(|four| four.contains(&key))
+        .unwrap_or(card.len() / 4);
+    let above = fours * 4;
+    card[above..]
+        .iter()
         .position(|place| *place == key)
-        .map_or(0, |above| above + 1)
+        .map_or(0, |below| above + below + 1)
 }
 
 // The outcome of a read on a card of some size, for a block at place j and a priority p.

@@ -1,15 +1,13 @@
 // The run over a trace: header, room, and then the records, for all sizes at once.
 ghost use Rattle.std.specs.Prelude.{◌≡◌, ◌&&◌, List, ◌≤◌, leb, length};
 ghost use Rattle.terms.specs.Ranges.{size};
-ghost use Rattle.terms.specs.Reads.{Read};
-ghost use Rattle.trace.specs.Reading.{Reading};
+ghost use Rattle.trace.specs.Reading.{record_at};
 ghost use Rattle.trace.specs.Trace.{reads_from};
 ghost use Rattle.sizes.specs.Outcome.{blocks_length};
 ghost use Rattle.engine.specs.Rows.{stretches_length};
 ghost use Rattle.counts.specs.Columns.{counts_length};
-ghost use Rattle.terms.specs.Areas.{zeros, fronted};
 ghost use Rattle.pass.specs.Answers.{ran_answer};
-ghost use Rattle.sizes.specs.Passing.{Starts, Fitting, Untouched, answer_after, counts_after, TalliedBy};
+ghost use Rattle.sizes.specs.Passing.{OfSize, Fitting, Untouched, Same, read_answer, answer_after, TalliedBy, passed};
 ghost use Rattle.sizes.specs.Answers.{AreasAre, run_in};
 
 use card::places::key_of;
@@ -21,7 +19,19 @@ use pass::answers::Report;
 use terms::range::LARGEST_SIZE;
 use terms::{Fault, Refusal};
 use trace::header::read_header;
-use trace::record::read_record;
+use trace::record::{Record, read_record};
+
+// The record at a place of a trace; the place of a fault counts from the start of the trace.
+#[tactic(auto, using(trace::proofs::Parts::record_read, trace::proofs::Parts::record_refused, trace::proofs::Parts::place_in))]
+fn next_record(trace: &[u8], at: usize) -> Result<Record, Fault>
+    requires { at ≤ length trace.now }
+    ensures { read_answer at result ≡ record_at trace.now at }
+{
+    read_record(&trace[at..]).map_err(|fault| Fault {
+        place: at + fault.place,
+        ..fault
+    })
+}
 
 // Areas of exactly the lengths that size n asks for.
 #[derive(Drop)]
@@ -34,27 +44,34 @@ struct Areas<'a> {
 
 impl Areas<'_> {
     // What the areas hold is of no use to anyone before a run, nor what a refused one leaves there: all of it becomes zeros.
-    fn clear(&mut self) {
+    fn clear(&mut self)
+        requires { Fitting self.old }
+        ensures same { Same self.old self.new }
+        ensures untouched { Untouched self.new }
+    {
         self.blocks.fill(0);
         self.stretches.fill(0);
         self.counts.fill(0);
     }
 
     // The records from a place to the end, each read at all sizes, on areas that no read has touched.
-    fn read_records(&mut self, trace: &[u8], start: usize) -> Result<Report, Fault> {
+    #[tactic(auto, using(trace::proofs::Parts::given_good, crate::proofs::run::Turns::turns_end))]
+    fn read_records(&mut self, trace: &[u8], start: usize) -> Result<Report, Fault>
+        requires fitting { Fitting self.old }
+        requires untouched { Untouched self.old }
+        requires starts { start ≤ length trace.now }
+        ensures same { Same self.old self.new }
+        ensures fitting { Fitting self.new }
+        ensures answer { ran_answer result ≡ answer_after self.new.n (reads_from (length trace.now) trace.now start) }
+        ensures tallied { TalliedBy self.new.n (reads_from (length trace.now) trace.now start) self.new.counts.now }
+    {
         // A list on its way from one row to another; made once, so that it is not set to zero for each read.
         let mut scratch = [0u16; LIST_ROOM];
         let mut sums = Sums::default();
         let mut reads: u64 = 0;
         let mut at = start;
         while at < trace.len() {
-            let record = match read_record(&trace[at..]) {
-                Ok(record) => record,
-                Err(fault) => return Err(Fault {
-                    place: at + fault.place,
-                    ..fault
-                }),
-            };
+            let record = next_record(trace, at)?;
             let key = key_of(record.volume, record.block);
             let p = record.priority as usize;
             sums = read(
@@ -76,24 +93,45 @@ impl Areas<'_> {
             one: sums.one as u64,
         })
     }
+}
 
-    // The pass over the records: whatever the areas hold, they are cleared before it, and all but the counts of accepted records after it.
-    fn pass(&mut self, trace: &[u8], start: usize) -> Result<Report, Fault> {
-        self.clear();
-        let report = self.read_records(trace, start);
-        match report {
-            Ok(report) => {
-                self.blocks.fill(0);
-                self.stretches.fill(0);
-                finish(self.counts, self.n, report.reads);
-            }
-            Err(_) => self.clear(),
+// The pass over the records, on areas of exactly the lengths that size n asks for: whatever they hold, they are cleared before it, and all but the counts
+// of accepted records after it.
+// The areas come as parameters: what a front of a slice holds in the end is known after a call that took it, and not after a struct that held it.
+fn pass(
+    trace: &[u8],
+    start: usize,
+    n: usize,
+    blocks: &mut [u64],
+    stretches: &mut [u16],
+    counts: &mut [u64],
+) -> Result<Report, Fault>
+    requires fitting { OfSize n blocks.old stretches.old counts.old }
+    requires starts { start ≤ length trace.now }
+    ensures answer { ran_answer result ≡ answer_after n (reads_from (length trace.now) trace.now start) }
+    ensures areas { AreasAre (passed n (reads_from (length trace.now) trace.now start)) blocks.new stretches.new counts.new }
+{
+    let mut areas = Areas {
+        n,
+        blocks,
+        stretches,
+        counts,
+    };
+    areas.clear();
+    let report = areas.read_records(trace, start);
+    match report {
+        Ok(report) => {
+            areas.blocks.fill(0);
+            areas.stretches.fill(0);
+            finish(areas.counts, n, report.reads);
         }
-        report
+        Err(_) => areas.clear(),
     }
+    report
 }
 
 // Whether areas of some lengths are long enough for a size.
+#[tactic(auto, unfolding(terms::specs::Ranges::size))]
 fn is_room(n: usize, blocks: usize, stretches: usize, counts: usize) -> bool
     requires { n ≤ size.largest }
     ensures { result ≡ leb (blocks_length n) blocks && (leb (stretches_length n) stretches && leb (counts_length n) counts) }
@@ -102,6 +140,7 @@ fn is_room(n: usize, blocks: usize, stretches: usize, counts: usize) -> bool
 }
 
 // Reads a whole trace. A refusal before the first record leaves the areas untouched; what lies past the lengths that the size asks for stays as it was.
+#[tactic(auto, using(crate::proofs::run::WaysOut::header_in, crate::proofs::run::WaysOut::out_refused, crate::proofs::run::WaysOut::out_of_room), unfolding(terms::specs::Ranges::size))]
 pub fn run(
     trace: &[u8],
     blocks: &mut [u64],
@@ -120,11 +159,12 @@ pub fn run(
             place: 0,
         });
     }
-    let mut areas = Areas {
+    pass(
+        trace,
+        header.length,
         n,
-        blocks: &mut blocks[..n],
-        stretches: &mut stretches[..stretches_length(n)],
-        counts: &mut counts[..COLUMNS * n],
-    };
-    areas.pass(trace, header.length)
+        &mut blocks[..n],
+        &mut stretches[..stretches_length(n)],
+        &mut counts[..COLUMNS * n],
+    )
 }

@@ -15,6 +15,7 @@ fn number_length(value: u64) -> usize
 {
     let mut rest = value;
     let mut total = 1;
+    // The value alone tells how many groups it has: there is nothing to go over by `for`.
     while 128 <= rest {
         rest /= 128;
         total += 1;
@@ -30,6 +31,7 @@ fn write_number(part: &mut [u8], value: u64) -> usize
 {
     let mut rest = value;
     let mut at = 0;
+    // Likewise: a `for` over the part would need an answer for a part that ends first.
     while 128 <= rest {
         part[at] = (128 + rest % 128) as u8;
         rest /= 128;

@@ -5,7 +5,7 @@ use Prim.Native.Nat.{ℕ}
 use borrow.Author.Rules.{rules}
 use borrow.Author.Tests.{le-leb}
 use lib.ListN.{length, drop}
-use Rattle.core.specs.Array.{IsFirstChunk}
+use Rattle.std.specs.Array.{IsFirstChunk}
 use Rattle.terms.specs.Ranges.{size}
 use Rattle.card.specs.State.{step_of}
 use Rattle.card.specs.Answers.{answer_of, stepped_answer}
