@@ -24,7 +24,7 @@ use Rattle.sizes.specs.Answers.{areas_of, AreasAre}
 use Rattle.counts.proofs.Tables.{counts_length_lem, count_at}
 use Rattle.sizes.proofs.RanFacts.{Accepted, done_accepted, accepted_done, areas_determined}
 use Rattle.sizes.proofs.RoomFacts.{room_less, answer_by_trace}
-use Rattle.sheet_text.specs.Sheet.{heading, cell, spaced, spaced_row, line_of, lines_of, refused_line, sheet_of, shown, Shows}
+use Rattle.sheet_text.specs.Sheet.{heading, cell, lines_of, refused_line, sheet_of, shown, Shows}
 use Rattle.sheet_text.specs.Desk.{largest_input, is_large, desk_sheet_of, areas_after, printed_by, printed_of}
 use Rattle.sheet_text.proofs.sheet.Bounds.{size_within, trace_size}
 use Rattle.sheet_text.proofs.sheet.Lines.{line_same}

@@ -1,5 +1,5 @@
 -- What the methods that put bytes into a text promise each other.
-use Rattle.std.specs.Prelude.{ℕ, ◌+◌, ◌≡◌, ◌^◌, ◌<◌, ◌≤◌, List, [], ◌∷◌, length, set}
+use Rattle.std.specs.Prelude.{ℕ, ◌+◌, ◌≡◌, ◌^◌, ◌<◌, List, [], ◌∷◌, length, set}
 use Rattle.sheet_text.specs.declared.text.Text.{Text}
 
 -- bytes put into a text from a place on; what does not fit is left out

@@ -7,7 +7,7 @@ ghost use Rattle.terms.specs.Refusals.{number_of};
 
 use terms::Fault;
 
-// The lent bytes, and how many were put in so far. A sheet cannot fail, and of a write! nothing says that it answers Ok: so no fmt::Write.
+// The lent bytes, and how many were put in so far. No fmt::Write: a sheet cannot fail, and no promise says that a write! answers Ok.
 #[derive(Drop)]
 pub struct Text<'a> {
     bytes: &'a mut [u8],
@@ -50,7 +50,7 @@ impl<'a> Text<'a> {
         }
     }
 
-    // A number, its first digit first, as its spelling is defined. The crate itoa is no plainer: its own spelling, and a law that both are one.
+    // A number, its first digit first, as its spelling is defined. The crate itoa is no plainer: another spelling, and a law that both are one.
     pub fn put_number(&mut self, n: u64)
         requires { CanCount self.old 20 }
         ensures takes { Takes self.old self.new (decimal n) }

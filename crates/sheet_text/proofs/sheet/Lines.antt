@@ -1,11 +1,11 @@
 -- Laws of the lines of a sheet: each is put in part by part.
-use mathlib.Core.Path.{◌≡◌, refl, ap, ap₂, subst}
+use mathlib.Core.Path.{◌≡◌, refl, ap, ap₂}
 use mathlib.Core.List.{List, ◌++◌}
 use native.Mathlib.Numerals.{add-one}
 use native.Mathlib.Omega.{arith}
 use Prim.Native.Nat.{ℕ, zero, suc, ◌+◌, ◌*◌, ◌<◌, ◌≤◌}
-use lib.ListN.{length, get_or}
-use Rattle.std.specs.List.{slice_range, slice_index}
+use lib.ListN.{length}
+use Rattle.std.specs.Prelude.{slice_range, slice_index}
 use Rattle.std.proofs.lemmas.Grind.{common_steps}
 use Rattle.counts.specs.Columns.{columns, counts_length}
 use Rattle.sheet_text.specs.declared.text.Text.{Text}

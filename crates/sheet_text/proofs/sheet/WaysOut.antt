@@ -1,7 +1,7 @@
 -- Laws of the ways out of the sheet, from the answers of the run and of the header reader.
 use mathlib.Core.Path.{◌≡◌, sym, ap, ◌∙◌}
 use mathlib.Core.List.{List}
-use Prim.Native.Nat.{ℕ, ◌+◌, ◌*◌, ◌^◌, ◌≤◌, ◌<◌}
+use Prim.Native.Nat.{ℕ, ◌+◌, ◌^◌, ◌≤◌, ◌<◌}
 use native.Mathlib.Omega.{arith}
 use lib.ListN.{length}
 use Rattle.std.specs.Prelude.{Result, Ok, Err, MatchResult}
@@ -17,10 +17,10 @@ use Rattle.pass.specs.Outcome as outcome
 use Rattle.pass.specs.Answers.{ran_answer}
 use Rattle.sizes.specs.Outcome.{Areas, run_of}
 use Rattle.sheet_text.specs.declared.text.Text.{Text}
-use Rattle.sheet_text.specs.Sheet.{cell, heading, lines_of, refused_line, size_in, sheet_of, shown, Shows}
+use Rattle.sheet_text.specs.Sheet.{cell, heading, lines_of, refused_line, size_in, sheet_of, Shows}
 use Rattle.sheet_text.specs.Writing.{Takes}
 use Rattle.sheet_text.proofs.Puts.{takes_then, put_shown}
-use Rattle.sheet_text.proofs.sheet.Bounds.{lines_short, counts_room, misses_reads}
+use Rattle.sheet_text.proofs.sheet.Bounds.{counts_room, misses_reads}
 
 -- ---- the size
 
