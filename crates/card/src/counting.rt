@@ -10,7 +10,8 @@ use terms::Refusal;
 // How many outcomes there are, each with a count.
 const OUTCOMES: usize = 6;
 
-// Whether a number is that of a hit; a number that is no outcome's is none.
+// Whether a number is that of a hit; a number that is no outcome's is none. This and `add_outcome` take a number, as they always did: an outcome would ask more
+// of a caller.
 #[tactic(auto, using(crate::proofs::counting::Cases::hit_past))]
 pub fn is_hit(outcome: u32) -> bool
     ensures { result ≡ is_hit outcome }

@@ -20,7 +20,8 @@ pub fn key_of(v: u64, b: u64) -> u64
     v % VOLUMES * BLOCKS + b % BLOCKS + 1
 }
 
-// The place of a block, 0 where it is not there; by fours first, because the search is a large part of a read.
+// The place of a block; by fours first, because the search is a large part of a read. 0 says that it is not there, and no Option does, since the card rule
+// counts so: its outcomes are told apart by comparisons with that 0.
 pub fn place_of(card: &[u64], key: u64) -> usize
     ensures { result ≡ place card.now key }
 {
@@ -54,7 +55,7 @@ fn outcome_of(size: usize, j: usize, p: usize) -> Outcome
     }
 }
 
-// A key comes to the first place, and the places up to the last shift one lower, in one sweep.
+// A key comes to the first place, and the places up to the last shift one lower, in one sweep. This and `raise` are the card rule's two effects by name.
 #[tactic(auto, using(crate::proofs::places::Copies::lowered_copy))]
 fn lower(card: &mut [u64], first: usize, last: usize, key: u64)
     requires { (1 ≤ first) × (first ≤ last) × (last ≤ length card.old) }

@@ -1,4 +1,5 @@
-// Lists of stretches: for each its first size and its place, and zeros after the last.
+// Lists of stretches: for each its first size and its place, and zeros after the last. A place 0 says that a block is not there, as in the card rule, and a next
+// size past the largest that there is no next stretch: the comparisons of a merge then need no case for it.
 ghost use Rattle.std.specs.Prelude.{◌≡◌, [], ◌∷◌, ℕ, ◌+◌, ◌^◌, ◌<◌, ◌≤◌, length, get_or};
 ghost use Rattle.engine.specs.Rows.{pairs};
 ghost use Rattle.card.specs.Falling.{Falling};

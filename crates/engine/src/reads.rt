@@ -34,7 +34,7 @@ fn is_bypass(n: usize, p: usize, j: usize) -> bool
     j == 0 && n < p
 }
 
-// The place of a block in the largest card, 0 where it is in no card; its stretches come into the list.
+// The place of a block in the largest card, 0 where it is in no card, as in the card rule; its stretches come into the list.
 pub fn find(blocks: &[u64], stretches: &[u16], n: usize, key: u64, list: &mut [u16]) -> usize
     requires { CanFind n key blocks.now stretches.now list.old }
     ensures { Found n key blocks.now stretches.now result list.new }

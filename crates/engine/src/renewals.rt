@@ -97,7 +97,7 @@ pub fn below_row(
     changes.with(more)
 }
 
-// The row of place k gets what was one place above it.
+// The row of place k gets what was one place above it. `up_row` is no case of it: one function for both is not inlined into the sweeps, and cost more.
 pub fn down_row(
     area: &mut [u16],
     list: &[u16],

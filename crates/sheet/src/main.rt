@@ -47,6 +47,7 @@ fn read_input<R: Read>(reader: &mut R, input: &mut [u8]) -> io::Result<usize>
     ensures end { IfOk result (λ taken. taken < length input.new → IsAtEnd (R.remaining reader.new)) }
 {
     let mut length = 0;
+    // A turn goes on by as many bytes as the read brought.
     while length < input.len() {
         let more = read_some(reader, &mut input[length..])?;
         if more == 0 {

@@ -60,13 +60,15 @@ fn put_lines(text: &mut Text, counts: &[u64], n: usize)
     }
 }
 
-// The largest size that a trace names, 0 where its header is refused.
+// The largest size that a trace names, and so how many lines a sheet has: 0 where its header is refused, as the definition says.
 fn size_in(trace: &[u8]) -> usize
     ensures { result ≡ size_in (header_at size.largest trace.now 0) }
 {
     read_header(trace, LARGEST_SIZE as u64).map_or(0, |header| header.size as usize)
 }
 
+// The areas are plain slices here, in `run` and in `desk_sheet`, as the calls for C lend them.
+//
 // Runs a trace and puts its sheet into the text, as far as that fits; answers how many bytes the whole sheet has.
 pub fn sheet(
     trace: &[u8],

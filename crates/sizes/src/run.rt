@@ -70,6 +70,7 @@ impl Areas<'_> {
         let mut sums = Sums::default();
         let mut reads: u64 = 0;
         let mut at = start;
+        // A turn goes on by as many bytes as its record has.
         while at < trace.len() {
             let record = next_record(trace, at)?;
             let key = key_of(record.volume, record.block);

@@ -31,7 +31,8 @@ struct Case<'a> {
     filled: u8,
 }
 
-// The case at the front of the bytes and the bytes after it; none where the bytes do not hold all of it.
+// The case at the front of the bytes and the bytes after it; none where the bytes do not hold all of it. `salvage_test` cuts its cases likewise: a crate between the
+// two would be longer than what it saves.
 fn first_case(bytes: &[u8]) -> Option<(Case<'_>, &[u8])>
     ensures { IfSome result (λ case. length case.1.now < length bytes.now) }
 {

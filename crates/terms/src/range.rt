@@ -24,6 +24,7 @@ pub struct Range {
     pub refusal: Refusal,
 }
 
+// The five ranges are functions of their own, each with a promise that names it, so that no caller knows a bound's value.
 impl Range {
     #[tactic(auto, unfolding(crate::specs::Ranges::edition))]
     pub fn edition() -> Range
