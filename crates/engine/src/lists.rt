@@ -39,32 +39,27 @@ impl<'a> Cursor<'a> {
     }
 
     // At the first size of the next stretch.
-    fn next_stretch(self) -> Cursor<'a>
-        requires { (self.n < 65535) × (self.passed + 2 < 2 ^ 64) }
-        ensures over { Over self.entry.list.now self.entry.n result }
-        ensures passed { result.passed ≡ self.entry.passed + 2 }
-        ensures at { GoesOn self.entry.list.now self.entry.n self.entry result }
+    fn next_stretch(&mut self)
+        requires { (self.old.n < 65535) × (self.old.passed + 2 < 2 ^ 64) }
+        ensures over { Over self.old.list.now self.old.n self.new }
+        ensures passed { self.new.passed ≡ self.old.passed + 2 }
+        ensures at { GoesOn self.old.list.now self.old.n self.old self.new }
     {
         let i = self.passed;
-        Cursor {
-            passed: i + 2,
-            place: entry(self.list, i + 1),
-            next: next_size(self.list, i + 2, self.n),
-            ..self
-        }
+        self.passed = i + 2;
+        self.place = entry(self.list, i + 1);
+        self.next = next_size(self.list, i + 2, self.n);
     }
 
     // At size s, from the size before.
-    fn advance(self, s: u16) -> Cursor<'a>
-        requires { (self.n < 65535) × (self.passed + 2 < 2 ^ 64) }
-        ensures over { Over self.entry.list.now self.entry.n result }
-        ensures passed { result.passed ≤ self.entry.passed + 2 }
-        ensures at { GoesTo self.entry.list.now self.entry.n s self.entry result }
+    fn advance(&mut self, s: u16)
+        requires { (self.old.n < 65535) × (self.old.passed + 2 < 2 ^ 64) }
+        ensures over { Over self.old.list.now self.old.n self.new }
+        ensures passed { self.new.passed ≤ self.old.passed + 2 }
+        ensures at { GoesTo self.old.list.now self.old.n s self.old self.new }
     {
         if self.next == s {
-            self.next_stretch()
-        } else {
-            self
+            self.next_stretch();
         }
     }
 
@@ -78,7 +73,7 @@ impl<'a> Cursor<'a> {
         let mut x = Cursor::new(list, n);
         // The turns are stretches, and no count of entries or sizes.
         while x.next <= t && x.passed < list.len() {
-            x = x.next_stretch();
+            x.next_stretch();
         }
         x
     }
@@ -184,8 +179,8 @@ pub fn merge(list: &[u16], other: &[u16], out: &mut [u16], p: u16, n: u16) -> us
     // The turns are the sizes at which a list begins a stretch, and no count.
     while t < n {
         let s = t + 1;
-        x = x.advance(s);
-        y = y.advance(s);
+        x.advance(s);
+        y.advance(s);
         let r = new_place(x.place, p, s, y.place);
         q = push(out, q, s, r, last);
         last = r;
