@@ -8,7 +8,7 @@ use crate::renewals::{RowRead, above_row, below_row, down_row, own_row, up_row};
 use crate::rows::{Changes, row_length};
 
 // The area, the lists and the changes go together through all of these. They are parameters: one struct of them with methods proves too, and was tried, but
-// took 1.10 times the instructions of a read at N = 127 in the geometric mean, and up to 1.24.
+// took 1.045 times the instructions of a read at N = 127 in the geometric mean.
 
 // The rows above p and the block read, from the first one on.
 fn above(
