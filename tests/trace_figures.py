@@ -1,4 +1,4 @@
-"""Works out each line of crates/trace_test/stdout from the calls in its source, by tests/trace_format.py.
+"""Works out each line of crates/trace_test/stdout from the tables in its source, by tests/trace_format.py.
 
 The gate compares that file with what the proved library answers, so the two readings of the format meet in it.
 """
@@ -9,8 +9,12 @@ import compare
 import trace_format as form
 
 ROOM = 12
-# a call with what it is told of, after the handle by which it prints; the last of a function is what that answers
-CALL = re.compile(r'^    (number|number_at|header|record|write_header|write_record)\(rt, (.*)\)(?:\?;)?$')
+# the tables of the program's source, in the order in which it goes over them
+TABLES = ('NUMBERS', 'HEADERS', 'RECORDS', 'WRITTEN_HEADERS', 'WRITTEN_RECORDS')
+# bytes by their hexadecimal digits, with a place after them in the first table; or numbers, of which some are the largest of a type
+BYTES = re.compile(r'b"((?:\\x..)*)"(?:, ([\w:]+)\))?')
+NUMBERS = re.compile(r'\(([\w:, ]+)\)')
+LARGEST = {'usize::MAX': 2 ** 64 - 1, 'u32::MAX': 2 ** 32 - 1}
 
 
 def hexed(data):
@@ -54,24 +58,37 @@ def written(kind, names, ranges, room, at, values):
     return 'write %s room %d at %d%s%s buffer%s' % (kind, room, at, told, answer, hexed(buffer))
 
 
-def line(call, arguments):
-    if call in ('number', 'number_at', 'header', 'record'):
-        text, _, place = arguments.partition('", ')
-        data = bytes(int(byte, 16) for byte in re.findall(r'\\x(..)', text))
-        if call == 'header':
-            return header(data)
-        if call == 'record':
-            return record(data)
-        return number(data, int(place or 0))
-    room, at, *values = (int(word) for word in arguments.split(', '))
-    if call == 'write_header':
-        return written('header', ('edition', 'size'), form.HEADER, room, at, values)
-    return written('record', ('volume', 'block', 'priority'), form.RECORD, room, at, values)
+def value(word):
+    return LARGEST[word] if word in LARGEST else int(word)
+
+
+def table(source, name):
+    """What stands between the brackets of a table, and how many entries its type says that there are."""
+    found = re.search(r'^const %s: \[[^\n]*; (\d+)\] = \[\n(.*?)^\];$' % name, source, re.MULTILINE | re.DOTALL)
+    return int(found[1]), found[2]
+
+
+def lines(name, entries):
+    """The lines of a table."""
+    if name in ('WRITTEN_HEADERS', 'WRITTEN_RECORDS'):
+        kind, names, ranges = (('header', ('edition', 'size'), form.HEADER) if name == 'WRITTEN_HEADERS' else
+                               ('record', ('volume', 'block', 'priority'), form.RECORD))
+        for numbers in NUMBERS.findall(entries):
+            room, at, *values = map(value, numbers.split(', '))
+            yield written(kind, names, ranges, room, at, values)
+        return
+    for digits, place in BYTES.findall(entries):
+        data = bytes(int(byte, 16) for byte in re.findall(r'\\x(..)', digits))
+        yield number(data, value(place)) if name == 'NUMBERS' else header(data) if name == 'HEADERS' else record(data)
 
 
 source = (compare.CRATES / 'trace_test' / 'src' / 'main.rt').read_text()
-cases = source[source.index('\nfn numbers('):]
-calls = [found.groups() for found in map(CALL.match, cases.split('\n')) if found]
 tally = compare.Tally()
-tally.lines([line(*call) for call in calls], 'trace_test')
+worked_out = []
+for name in TABLES:
+    many, entries = table(source, name)
+    told = list(lines(name, entries))
+    tally.equal('how many entries %s has' % name, len(told), many)
+    worked_out += told
+tally.lines(worked_out, 'trace_test')
 sys.exit(tally.end())

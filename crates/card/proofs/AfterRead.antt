@@ -7,9 +7,11 @@ use Prim.Native.Nat.{ℕ, zero, suc, ◌+◌, ◌-◌, ◌≤◌, ◌<◌, min}
 use native.Mathlib.Omega.{arith}
 use lib.Dec.{ltb, leb}
 use lib.ListN.{length, take}
+use Rattle.std.specs.List.{list_all}
+use Rattle.std.proofs.lemmas.List.Folds.{list_all-append}
 use Rattle.card.specs.Rule.{place, after_read}
 use Rattle.card.specs.Moves.{taken_out, put_in}
-use Rattle.card.specs.State.{every, apart}
+use Rattle.card.specs.State.{apart}
 use Rattle.terms.proofs.Ranges.{and_both}
 use Rattle.card.proofs.Tests.{by_lt, by_eq, tests, both_and}
 use Rattle.card.proofs.TwoMoves.Shifts.{out, put, out_lo, put_lo, put_hi, out_le}
@@ -42,35 +44,34 @@ pub apart_after : (c : List ℕ) (x p : ℕ) → 0 < x → 1 ≤ p → apart c �
 apart_after c x p z h a = rw (two_moves c x p h) (apart_test (moved c x (p - 1)) (apart_moved c x (p - 1) (omega arith) (apart_holds c a)))
 
 module _ (test : ℕ → Bool) where
-  every_without : (c : List ℕ) (x : ℕ) → every test c ≡ true → every test (without x c) ≡ true
-  every_without [] x h = refl
-  every_without (y ∷ ys) x h =
-      let (a, b) = and_both (test y) (every test ys) h in
-      by_eq y x (λ e. simp tests b) (λ e. simp tests (both_and (test y) (every test (without x ys)) a (every_without ys x b)))
+  all_without : (c : List ℕ) (x : ℕ) → list_all test c ≡ true → list_all test (without x c) ≡ true
+  all_without [] x h = refl
+  all_without (y ∷ ys) x h =
+      let (a, b) = and_both (test y) (list_all test ys) h in
+      by_eq y x (λ e. simp tests b) (λ e. simp tests (both_and (test y) (list_all test (without x ys)) a (all_without ys x b)))
 
-  every_insert : (q x : ℕ) (c : List ℕ) → test x ≡ true → every test c ≡ true → every test (insert_at q x c) ≡ true
-  every_insert zero x c t h = both_and (test x) (every test c) t h
-  every_insert (suc q) x [] t h = refl
-  every_insert (suc q) x (y ∷ ys) t h =
-      let (a, b) = and_both (test y) (every test ys) h in both_and (test y) (every test (insert_at q x ys)) a (every_insert q x ys t b)
+  all_insert : (q x : ℕ) (c : List ℕ) → test x ≡ true → list_all test c ≡ true → list_all test (insert_at q x c) ≡ true
+  all_insert zero x c t h = both_and (test x) (list_all test c) t h
+  all_insert (suc q) x [] t h = refl
+  all_insert (suc q) x (y ∷ ys) t h =
+      let (a, b) = and_both (test y) (list_all test ys) h in both_and (test y) (list_all test (insert_at q x ys)) a (all_insert q x ys t b)
 
-  pub every_take : (n : ℕ) (c : List ℕ) → every test c ≡ true → every test (take n c) ≡ true
-  every_take zero c h = refl
-  every_take (suc n) [] h = refl
-  every_take (suc n) (y ∷ ys) h = let (a, b) = and_both (test y) (every test ys) h in both_and (test y) (every test (take n ys)) a (every_take n ys b)
+  pub all_take : (n : ℕ) (c : List ℕ) → list_all test c ≡ true → list_all test (take n c) ≡ true
+  all_take zero c h = refl
+  all_take (suc n) [] h = refl
+  all_take (suc n) (y ∷ ys) h = let (a, b) = and_both (test y) (list_all test ys) h in both_and (test y) (list_all test (take n ys)) a (all_take n ys b)
 
-  every_pad : (c : List ℕ) → test 0 ≡ true → every test c ≡ true → every test (c ++ (0 ∷ [])) ≡ true
-  every_pad [] t h = both_and (test 0) true t refl
-  every_pad (y ∷ ys) t h = let (a, b) = and_both (test y) (every test ys) h in both_and (test y) (every test (ys ++ (0 ∷ []))) a (every_pad ys t b)
+  all_pad : (c : List ℕ) → test 0 ≡ true → list_all test c ≡ true → list_all test (c ++ (0 ∷ [])) ≡ true
+  all_pad c t h = rw (list_all-append test c (0 ∷ []), h, t)
 
-  every_moved : (c : List ℕ) (x q : ℕ) → test 0 ≡ true → test x ≡ true → every test c ≡ true → every test (moved c x q) ≡ true
+  all_moved : (c : List ℕ) (x q : ℕ) → test 0 ≡ true → test x ≡ true → list_all test c ≡ true → list_all test (moved c x q) ≡ true
   unfolding moved
-  every_moved c x q z t h =
-      every_take (length c) (insert_at q x (without x c ++ (0 ∷ []))) (every_insert q x (without x c ++ (0 ∷ [])) t (every_pad (without x c) z (every_without c x h)))
+  all_moved c x q z t h =
+      all_take (length c) (insert_at q x (without x c ++ (0 ∷ []))) (all_insert q x (without x c ++ (0 ∷ [])) t (all_pad (without x c) z (all_without c x h)))
 
 -- after a read a test passes at every place, where it did before and does for the block
-pub every_after : (test : ℕ → Bool) (c : List ℕ) (x p : ℕ) → 1 ≤ p → test 0 ≡ true → test x ≡ true → every test c ≡ true → every test (after_read c x p) ≡ true
-every_after test c x p h z t e = rw (two_moves c x p h) (every_moved test c x (p - 1) z t e)
+pub all_after : (test : ℕ → Bool) (c : List ℕ) (x p : ℕ) → 1 ≤ p → test 0 ≡ true → test x ≡ true → list_all test c ≡ true → list_all test (after_read c x p) ≡ true
+all_after test c x p h z t e = rw (two_moves c x p h) (all_moved test c x (p - 1) z t e)
 
 -- the place of the block that is read
 pub place_read : (c : List ℕ) (x p : ℕ) → 0 < x → 1 ≤ p → apart c ≡ true → place (after_read c x p) x ≡ cond (leb p (length c)) p 0

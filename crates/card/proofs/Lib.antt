@@ -1,6 +1,7 @@
 -- cases
 pub mod Tests
 pub mod OutcomeCases
+pub mod OutcomeNumbers
 -- one read on a card
 pub mod TwoMoves
 pub mod AfterRead

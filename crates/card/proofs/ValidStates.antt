@@ -10,50 +10,50 @@ use lib.Dec.{eqb}
 use lib.ListN.{length, take, drop, take-append-drop, length-append, length-replicate, replicate-append-replicate}
 use lib.Seq.{drop_at, take_at, length-take-le}
 use borrow.Author.Tests.{le-leb, eqb-true, ne_eqb}
+use Rattle.std.specs.List.{list_all}
+use Rattle.std.proofs.lemmas.List.Folds.{list_all-append}
 use Rattle.terms.specs.Reads.{Read, read_of, ReadOk, ReadsOk}
 use Rattle.terms.specs.Ranges.{in_range, size, volume, block, priority}
 use Rattle.card.specs.Rule.{key_of, place, one_lower, outcome_on, after_read}
 use Rattle.card.specs.Run.{block_read, asked, empty, next, run, card_after, outcomes}
-use Rattle.card.specs.State.{every, is_empty, is_key, largest_key, apart, is_state, Answer, Outcome, Stepped, step_of, stepping, refusing}
+use Rattle.card.specs.State.{is_empty, is_key, largest_key, apart, is_state, Answer, Outcome, Stepped, step_of, stepping, refusing}
 use Rattle.terms.proofs.Ranges.{and_both, bounds}
 use Rattle.card.proofs.Tests.{by_eq, tests, both_and}
-use Rattle.card.proofs.AfterRead.{length_after, apart_after, every_after, every_take}
+use Rattle.card.proofs.AfterRead.{length_after, apart_after, all_after, all_take}
 use Rattle.card.proofs.Asked.{asked_some, length_next}
 use Rattle.card.proofs.Inclusion.{key_some, apart_card}
 
 -- ---- a card and the empty places after it
 
-every_append : (test : ℕ → Bool) (c es : List ℕ) → every test c ≡ true → every test es ≡ true → every test (c ++ es) ≡ true
-every_append test [] es h g = g
-every_append test (y ∷ ys) es h g =
-    let (a, b) = and_both (test y) (every test ys) h in both_and (test y) (every test (ys ++ es)) a (every_append test ys es b g)
+all_append : (test : ℕ → Bool) (c es : List ℕ) → list_all test c ≡ true → list_all test es ≡ true → list_all test (c ++ es) ≡ true
+all_append test c es h g = rw (list_all-append test c es, h, g)
 
-every_drop : (test : ℕ → Bool) (n : ℕ) (c : List ℕ) → every test c ≡ true → every test (drop n c) ≡ true
-every_drop test zero c h = h
-every_drop test (suc n) [] h = refl
-every_drop test (suc n) (y ∷ ys) h = every_drop test n ys (and_both (test y) (every test ys) h).1
+all_drop : (test : ℕ → Bool) (n : ℕ) (c : List ℕ) → list_all test c ≡ true → list_all test (drop n c) ≡ true
+all_drop test zero c h = h
+all_drop test (suc n) [] h = refl
+all_drop test (suc n) (y ∷ ys) h = all_drop test n ys (and_both (test y) (list_all test ys) h).1
 
-every_empty : (test : ℕ → Bool) → test 0 ≡ true → (n : ℕ) → every test (empty n) ≡ true
-every_empty test h zero = refl
-every_empty test h (suc n) = both_and (test 0) (every test (empty n)) h (every_empty test h n)
+all_empty : (test : ℕ → Bool) → test 0 ≡ true → (n : ℕ) → list_all test (empty n) ≡ true
+all_empty test h zero = refl
+all_empty test h (suc n) = both_and (test 0) (list_all test (empty n)) h (all_empty test h n)
 
 empty_key : is_key 0 ≡ true
 empty_key = le-leb 0 largest_key (omega arith)
 
 -- no block stands in empty places
-place_past : (c es : List ℕ) (x : ℕ) → x ≢ 0 → every is_empty es ≡ true → place (c ++ es) x ≡ place c x
+place_past : (c es : List ℕ) (x : ℕ) → x ≢ 0 → list_all is_empty es ≡ true → place (c ++ es) x ≡ place c x
 place_past [] [] x n h = refl
 place_past [] (e ∷ es) x n h =
-    let (a, b) = and_both (is_empty e) (every is_empty es) h in
+    let (a, b) = and_both (is_empty e) (list_all is_empty es) h in
     let f : e ≡ 0 = eqb-true e 0 a in
     let d : e ≢ x = λ g. n (sym g ∙ f) in
     rw (ne_eqb e x d, place_past [] es x n b)
 place_past (y ∷ ys) es x n h = ap (λ (j : ℕ). cond (eqb y x) 1 (one_lower j)) (place_past ys es x n h)
 
-apart_past : (c es : List ℕ) → every is_empty es ≡ true → apart (c ++ es) ≡ apart c
+apart_past : (c es : List ℕ) → list_all is_empty es ≡ true → apart (c ++ es) ≡ apart c
 apart_past [] [] h = refl
 apart_past [] (e ∷ es) h =
-    let (a, b) = and_both (is_empty e) (every is_empty es) h in
+    let (a, b) = and_both (is_empty e) (list_all is_empty es) h in
     rw (a, apart_past [] es b)
 apart_past (y ∷ ys) es h =
     by_eq y 0
@@ -65,16 +65,16 @@ apart_past (y ∷ ys) es h =
 -- what a state is, in parts
 record Valid (m : ℕ) (places : List ℕ) : Type 0 where
   ranged : in_range size m ≡ true
-  past : every is_empty (drop m places) ≡ true
-  keys : every is_key places ≡ true
+  past : list_all is_empty (drop m places) ≡ true
+  keys : list_all is_key places ≡ true
   once : apart places ≡ true
 
 valid_of : (m : ℕ) (places : List ℕ) → is_state m places ≡ true → Valid m places
 unfolding is_state
 valid_of m places h =
     let (a, b) = and_both (in_range size m) _ h in
-    let (c, d) = and_both (every is_empty (drop m places)) _ b in
-    let (e, f) = and_both (every is_key places) (apart places) d in
+    let (c, d) = and_both (list_all is_empty (drop m places)) _ b in
+    let (e, f) = and_both (list_all is_key places) (apart places) d in
     record { ranged = a; past = c; keys = e; once = f }
 
 of_valid : (m : ℕ) (places : List ℕ) → Valid m places → is_state m places ≡ true
@@ -96,14 +96,14 @@ module _ (m : ℕ) (places : List ℕ) (room : m ≤ length places) (ok : Valid 
   after_past : drop m (after_read (take m places) x p ++ drop m places) ≡ drop m places
   after_past = drop_at (after_read (take m places) x p) (drop m places) m (length_after (take m places) x p one ∙ length-take-le m places room)
 
-  every_past : every is_key (drop m places) ≡ true
-  every_past = every_drop is_key m places ok.keys
+  all_past : list_all is_key (drop m places) ≡ true
+  all_past = all_drop is_key m places ok.keys
 
   valid_after : Valid m (after_read (take m places) x p ++ drop m places)
   valid_after = record {
     ranged = ok.ranged;
     past = rw after_past ok.past;
-    keys = every_append is_key (after_read (take m places) x p) (drop m places) (every_after is_key (take m places) x p one empty_key k (every_take is_key m places ok.keys)) every_past;
+    keys = all_append is_key (after_read (take m places) x p) (drop m places) (all_after is_key (take m places) x p one empty_key k (all_take is_key m places ok.keys)) all_past;
     once = apart_past (after_read (take m places) x p) (drop m places) ok.past ∙ apart_after (take m places) x p z one front;
   }
 
@@ -160,9 +160,9 @@ module _ (m k : ℕ) where
         start : Valid m (empty m ++ empty k)
         start = record {
           ranged = h;
-          past = rw (drop_at (empty m) (empty k) m (length-replicate m 0)) (every_empty is_empty refl k);
-          keys = every_append is_key (empty m) (empty k) (every_empty is_key empty_key m) (every_empty is_key empty_key k);
-          once = apart_past (empty m) (empty k) (every_empty is_empty refl k) ∙ apart_card m [];
+          past = rw (drop_at (empty m) (empty k) m (length-replicate m 0)) (all_empty is_empty refl k);
+          keys = all_append is_key (empty m) (empty k) (all_empty is_key empty_key m) (all_empty is_key empty_key k);
+          once = apart_past (empty m) (empty k) (all_empty is_empty refl k) ∙ apart_card m [];
         }
 
     -- the state that steps reach from the empty one is the run's card, with empty places after it

@@ -1,2 +1,2 @@
--- Laws that serve the functions of `card::counts` alone.
+-- Laws that serve the functions of `card::counting` alone.
 mod Cases

@@ -1,4 +1,3 @@
 -- Laws that serve the functions of `card::places` alone.
+mod Copies
 mod Searches
-mod Sweeps
-mod Cases

@@ -5,6 +5,7 @@ pub mod Hints
 pub mod Stretches
 pub mod Falling
 pub mod State
+pub mod Outcomes
 pub mod Counts
 pub mod Ratio
 pub mod Answers

@@ -1,5 +1,6 @@
 -- The step for one size: its state, its tests and its answer.
 use Rattle.std.specs.Prelude.{ℕ, Bool, true, ◌&&◌, ◌||◌, cond, List, [], ◌∷◌, ◌++◌, leb, eqb, take, drop}
+use Rattle.std.specs.List.{list_all}
 use Rattle.terms.specs.declared.Refusal.{Refusal}
 use Rattle.terms.specs.declared.Refusal.TheVariants.{State}
 use Rattle.terms.specs.Refusals.{number_of}
@@ -7,11 +8,6 @@ use Rattle.terms.specs.Ranges.{in_range, size, volume, block, priority}
 use Rattle.terms.specs.Reads.{read_of}
 use Rattle.card.specs.Rule.{key_of, place, outcome_on, after_read}
 use Rattle.card.specs.Run.{block_read, asked}
-
--- a test passes at every place
-abbrev pub every : (ℕ → Bool) → List ℕ → Bool
-every test [] = true
-every test (x ∷ xs) = test x && every test xs
 
 -- a place holds at most a number
 abbrev pub at_most : ℕ → ℕ → Bool
@@ -36,7 +32,7 @@ apart (x ∷ xs) = (is_empty x || eqb (place xs x) 0) && apart xs
 
 -- a size in its range, no full place after it, no place over the largest key, and no block in two places
 unfoldable pub is_state : ℕ → List ℕ → Bool
-is_state m places = in_range size m && (every is_empty (drop m places) && (every is_key places && apart places))
+is_state m places = in_range size m && (list_all is_empty (drop m places) && (list_all is_key places && apart places))
 
 -- the outcome, or the refusal's number
 pub data Answer : Type 0 where

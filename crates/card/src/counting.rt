@@ -1,67 +1,47 @@
 // The six counts of a host that keeps one card: what each outcome is to it.
 ghost use Rattle.std.specs.Prelude.{◌≡◌};
 ghost use Rattle.card.specs.Counts.{is_hit, slot_of, counting_of, counts_after};
+ghost use Rattle.card.specs.Outcomes.{outcome_number};
 ghost use Rattle.card.specs.Answers.{counted_answer};
 
+use crate::outcome::Outcome;
 use terms::Refusal;
 
 // How many outcomes there are, each with a count.
 const OUTCOMES: usize = 6;
 
-const LARGEST_COUNT: u64 = 18446744073709551615;
-
-// Whether an outcome is a hit; a hit bypass is one.
+// Whether a number is that of a hit; a number that is no outcome's is none. This and `add_outcome` take a number, as they always did: an outcome would ask more
+// of a caller.
+#[tactic(auto, using(crate::proofs::counting::Cases::hit_past))]
 pub fn is_hit(outcome: u32) -> bool
     ensures { result ≡ is_hit outcome }
 {
-    match outcome {
-        0 => true,
-        1 => true,
-        2 => true,
-        3 => true,
-        4 => false,
-        5 => false,
-        _ => false,
-    }
+    Outcome::try_from(outcome).is_ok_and(Outcome::is_hit)
 }
 
-// The slot of an outcome in the counts; past them where the number is no outcome.
-fn slot_of(outcome: u32) -> usize
-    ensures { result ≡ slot_of outcome }
+// The slot of an outcome in the counts.
+#[tactic(auto, unfolding(crate::specs::Counts::slot_of))]
+fn slot_of(outcome: Outcome) -> usize
+    ensures { result ≡ slot_of (outcome_number outcome) }
 {
-    match outcome {
-        0 => 0,
-        1 => 1,
-        2 => 2,
-        3 => 3,
-        4 => 4,
-        5 => 5,
-        _ => OUTCOMES,
-    }
+    outcome as usize
 }
 
-// How many outcomes were added: none where the number is no outcome, or its count is full.
-#[derive(Clone, Copy)]
-pub enum Counted {
-    Added(u64),
-    Refused(Refusal),
-}
-
-// Adds an outcome to the counts; what lies past the six is kept.
-pub fn add_outcome(outcome: u32, counts: &mut [u64]) -> Counted
+// Adds an outcome to the counts, and answers how many were added: none where the number is no outcome, or its count is full. What lies past the six is kept.
+#[tactic(auto, using(crate::proofs::counting::Cases::slots), unfolding(crate::specs::Counts::counting_of, crate::specs::Counts::counts_after))]
+pub fn add_outcome(outcome: u32, counts: &mut [u64]) -> Result<u64, Refusal>
     ensures { (counted_answer result ≡ counting_of outcome counts.old) × (counts.new ≡ counts_after outcome counts.old) }
 {
     if counts.len() < OUTCOMES {
-        return Counted::Refused(Refusal::Room);
+        return Err(Refusal::Room);
     }
+    let Ok(outcome) = Outcome::try_from(outcome) else {
+        return Ok(0);
+    };
     let slot = slot_of(outcome);
-    if OUTCOMES <= slot {
-        return Counted::Added(0);
-    }
-    let before = counts[slot];
-    if LARGEST_COUNT <= before {
-        return Counted::Added(0);
-    }
-    counts[slot] = before + 1;
-    Counted::Added(1)
+    let Some(count) = counts[slot].checked_add(1) else {
+        return Ok(0);
+    };
+    counts[slot] = count;
+    Ok(1)
 }

@@ -2,6 +2,7 @@
 #![tactic(auto)]
 
 pub mod counting;
+pub mod outcome;
 pub mod places;
 pub mod ratio;
 mod state;

@@ -1,7 +1,9 @@
 -- What the functions of the tallies ask for and promise each other: where a tally begins to count, and what is added to the area.
 use Rattle.std.specs.Prelude.{ℕ, ◌+◌, ◌-◌, ◌^◌, ◌≤◌, ◌<◌, ◌≡◌, cond, List, ltb, leb, length, get_or, set}
 use Rattle.counts.specs.Columns.{columns, counts_length, cell_of}
-use Rattle.counts.specs.Tallies.{SumsGive, Tallies, is_outcome}
+use Rattle.counts.specs.Tallies.{Tallies, is_outcome}
+use Rattle.counts.specs.declared.tallies.Part.{Part}
+use Rattle.counts.specs.declared.tallies.Part.TheVariants.{UpAfterInsert, Same, Down, HitBypass, Insert, UpAfterBypass}
 
 -- ---- one read
 
@@ -10,10 +12,18 @@ pub record HasRoom (counts : List ℕ) (n more : ℕ) : Type 0 where
   pub long : counts_length n ≤ length counts
   pub low : (x : ℕ) → get_or counts x 0 + more < 2 ^ 64
 
+-- the column of a part's tally
+abbrev pub column_of : Part → ℕ
+column_of UpAfterInsert = 0
+column_of Same = 1
+column_of Down = 2
+column_of HitBypass = 3
+column_of Insert = 4
+column_of UpAfterBypass = 5
+
 -- there is room for one more in a tally of a size
-pub record BumpReady (counts : List ℕ) (n k m : ℕ) : Type 0 where
+pub record BumpReady (counts : List ℕ) (n m : ℕ) : Type 0 where
   pub some : 1 ≤ m
-  pub column : k < columns
   pub room : HasRoom counts n 1
 
 -- there is room for the four ones of a read, wherever they fall
@@ -56,22 +66,14 @@ ReadTallied entry exit J n p =
 
 -- ---- the counts of one size
 
--- the sums can take in the tallies of one size more, from an index on
-pub record AddReady (sums counts : List ℕ) (at : ℕ) : Type 0 where
-  pub held : length sums ≡ columns
-  pub there : at + columns ≤ length counts
-  pub fits : (k : ℕ) → k < columns → get_or sums k 0 + get_or counts (at + k) 0 < 2 ^ 64
+-- the sums can take in the tallies of one size more
+pub record AddReady (sums tallies : List ℕ) : Type 0 where
+  pub there : columns ≤ length tallies
+  pub fits : (k : ℕ) → k < columns → get_or sums k 0 + get_or tallies k 0 < 2 ^ 64
 
 -- and have taken them in
-abbrev pub Added : (entry exit counts : List ℕ) (at : ℕ) → Type 0
-Added entry exit counts at = (k : ℕ) → k < columns → get_or exit k 0 ≡ get_or entry k 0 + get_or counts (at + k) 0
-
--- the sums give some counts, and these have room from an index on
-pub record WriteReady (counts : List ℕ) (at : ℕ) (sums : List ℕ) (reads : ℕ) : Type 0 where
-  pub there : at + columns ≤ length counts
-  pub held : length sums ≡ columns
-  pub given : ℕ → ℕ
-  pub gives : SumsGive (λ k. get_or sums k 0) reads given
+abbrev pub Added : (entry exit tallies : List ℕ) → Type 0
+Added entry exit tallies = (k : ℕ) → k < columns → get_or exit k 0 ≡ get_or entry k 0 + get_or tallies k 0
 
 -- ---- the counts of all sizes
 

@@ -1,41 +1,54 @@
 // The counts area: for each size a tally in each column until the end, and then a count.
 ghost use Rattle.std.specs.Prelude.{◌≡◌, ℕ, get_or};
-ghost use Rattle.std.proofs.lemmas.List.Edits.{sets};
 ghost use Rattle.card.specs.Falling.{Falling};
 ghost use Rattle.counts.specs.Columns.{columns, row, table};
 ghost use Rattle.counts.specs.Tallies.{SumsGive, Tallies};
-ghost use Rattle.counts.specs.TallySteps.{BumpReady, ReadReady, AddReady, WriteReady, FinishReady, bumped, begun, GrownBy, PartsBegin, ReadTallied, Added};
+ghost use Rattle.counts.specs.TallySteps.{BumpReady, ReadReady, AddReady, FinishReady, column_of, bumped, begun, GrownBy, PartsBegin, ReadTallied, Added};
 
-use terms::numbers::larger;
+use std::array::from_fn;
 
 // The counts of a size, one for each outcome.
 pub const COLUMNS: usize = 6;
 
-// One more in tally k of a size; a size past the largest has no tallies.
-fn bump(counts: &mut [u64], n: usize, k: usize, m: usize)
-    requires { BumpReady counts.old n k m }
-    ensures exact { counts.new ≡ bumped counts.old n k m }
+// The parts that a read's outcomes come in over rising sizes, in the order of the columns of their tallies. Miss bypasses come before any part;
+// hits that go up come after inserts or after hit bypasses.
+#[derive(Clone, Copy)]
+enum Part {
+    UpAfterInsert,
+    Same,
+    Down,
+    HitBypass,
+    Insert,
+    UpAfterBypass,
+}
+
+// One more in the tally of a part at a size; a size past the largest has no tallies.
+// The area and its size stay plain parameters: in a struct, each step would also have to promise that both stay the same.
+#[tactic(auto, unfolding(crate::specs::TallySteps::bumped))]
+fn bump(counts: &mut [u64], n: usize, part: Part, m: usize)
+    requires { BumpReady counts.old n m }
+    ensures exact { counts.new ≡ bumped counts.old n (column_of part) m }
     ensures small { GrownBy 1 counts.old counts.new }
 {
     if m <= n {
-        let at = COLUMNS * (m - 1) + k;
-        counts[at] = counts[at] + 1;
+        counts[COLUMNS * (m - 1) + part as usize] += 1;
     }
 }
 
 // Up to where both the block and room at its priority are there: sizes below the priority bypass, those with room but no block insert.
+#[tactic(auto, unfolding(crate::specs::TallySteps::begun))]
 fn begin(counts: &mut [u64], n: usize, first: usize, p: usize)
     requires { ReadReady counts.old n first p }
     ensures exact { counts.new ≡ begun counts.old n first p }
     ensures small { GrownBy 2 counts.old counts.new }
 {
     if p < first {
-        bump(counts, n, 4, p);
-        bump(counts, n, 0, first);
-        return;
+        bump(counts, n, Part::Insert, p);
+        bump(counts, n, Part::UpAfterInsert, first);
+    } else {
+        bump(counts, n, Part::HitBypass, first);
+        bump(counts, n, Part::UpAfterBypass, p);
     }
-    bump(counts, n, 3, first);
-    bump(counts, n, 5, p);
 }
 
 // One read with priority p of a block that is present from a size on, at a place up to p from another, and above p from a third. Over rising sizes
@@ -46,33 +59,39 @@ pub fn tally(counts: &mut [u64], n: usize, p: usize, first: usize, reached: usiz
     ensures small { GrownBy 1 counts.old counts.new }
 {
     begin(counts, n, first, p);
-    bump(counts, n, 1, larger(reached, p));
-    bump(counts, n, 2, larger(above, p));
+    bump(counts, n, Part::Same, reached.max(p));
+    bump(counts, n, Part::Down, above.max(p));
 }
 
-// The sums of the columns over the sizes so far, with one size more, whose tallies start at an index.
-fn add_size(sums: &mut [u64], counts: &[u64], at: usize)
-    requires { AddReady sums.old counts.now at }
-    ensures { Added sums.old sums.new counts.now at }
+// The sums of the columns over the sizes so far, with the tallies of one size more.
+fn add_size(sums: &mut [u64; COLUMNS], tallies: &[u64])
+    requires { AddReady sums.old tallies.now }
+    ensures { Added sums.old sums.new tallies.now }
 {
-    let mut k = 0;
-    while k < COLUMNS {
-        sums[k] = sums[k] + counts[at + k];
-        k += 1;
-    }
+    *sums = from_fn(|k| sums[k] + tallies[k]);
 }
 
-// The counts that the sums of a size give, over the tallies of that size.
-fn write_size(counts: &mut [u64], at: usize, sums: &[u64], reads: u64)
-    requires { WriteReady counts.old at sums.now reads }
-    ensures { (c : ℕ → ℕ) → SumsGive (λ k. get_or sums.now k 0) reads c → counts.new ≡ sets counts.old at (row columns c) }
+// The counts that the sums of a size give.
+fn counts_of(sums: [u64; COLUMNS], reads: u64) -> [u64; COLUMNS]
+    requires { (c : ℕ → ℕ) × SumsGive (λ k. get_or sums k 0) reads c }
+    ensures { (c : ℕ → ℕ) → SumsGive (λ k. get_or sums k 0) reads c → result ≡ row columns c }
 {
-    counts[at] = sums[0] + sums[5] - sums[1];
-    counts[at + 1] = sums[1] - sums[2];
-    counts[at + 2] = sums[2];
-    counts[at + 3] = sums[3] - sums[5];
-    counts[at + 4] = sums[4] - sums[0];
-    counts[at + 5] = reads - sums[4] - sums[3];
+    let [
+        up_after_insert,
+        same,
+        down,
+        hit_bypass,
+        insert,
+        up_after_bypass,
+    ] = sums;
+    [
+        up_after_insert + up_after_bypass - same,
+        same - down,
+        down,
+        hit_bypass - up_after_bypass,
+        insert - up_after_insert,
+        reads - insert - hit_bypass,
+    ]
 }
 
 // Turns the tallies into counts in place, size by size.
@@ -81,11 +100,10 @@ pub fn finish(counts: &mut [u64], n: usize, reads: u64)
     ensures { (c : ℕ → ℕ → ℕ) → Tallies n reads c counts.old → counts.new ≡ table n c }
 {
     let mut sums = [0u64; COLUMNS];
-    let mut m = 0;
-    while m < n {
+    for m in 0..n {
         let at = COLUMNS * m;
-        add_size(&mut sums, counts, at);
-        write_size(counts, at, &sums, reads);
-        m += 1;
+        let size = &mut counts[at..at + COLUMNS];
+        add_size(&mut sums, size);
+        size.copy_from_slice(&counts_of(sums, reads));
     }
 }

@@ -31,6 +31,11 @@ pub record At (R : ℕ → ℕ) (n t i v x : ℕ) : Type 0 where
 abbrev pub CursorAt : (R : ℕ → ℕ) (n t : ℕ) → Cursor → Type 0
 CursorAt R n t cursor = At R n t cursor.passed cursor.place cursor.next
 
+-- a cursor goes over a list, and sizes up to n
+pub record Over (list : List ℕ) (n : ℕ) (cursor : Cursor) : Type 0 where
+  pub same : cursor.list.now ≡ list
+  pub sizes : cursor.n ≡ n
+
 -- whatever list it is: the cursor goes from any size to its next one
 abbrev pub GoesOn : (list : List ℕ) (n : ℕ) (cursor next : Cursor) → Type 0
 GoesOn list n cursor next =

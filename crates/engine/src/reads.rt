@@ -6,11 +6,10 @@ use crate::lists::LIST_ROOM;
 use crate::rows::{Changes, load};
 use crate::starts::tally_list;
 use crate::sweeps::renew_all;
-use card::places::{at_least_one, move_from, place_of};
-use terms::numbers::larger;
+use card::places::{move_from, place_of};
 
 // The total of stretches, its peak, and the peak of one block.
-#[derive(Clone, Copy)]
+#[derive(Clone, Copy, Debug, Default, PartialEq, Eq)]
 pub struct Sums {
     pub now: usize,
     pub most: usize,
@@ -23,8 +22,8 @@ fn summed(sums: Sums, changes: Changes) -> Sums
     ensures { ChangesSummed sums changes result }
 {
     let now = sums.now + changes.gained - changes.lost;
-    let most = larger(sums.most, now);
-    let one = larger(sums.one, changes.longest);
+    let most = sums.most.max(now);
+    let one = sums.one.max(changes.longest);
     Sums { now, most, one }
 }
 
@@ -32,13 +31,10 @@ fn summed(sums: Sums, changes: Changes) -> Sums
 fn is_bypass(n: usize, p: usize, j: usize) -> bool
     ensures { (result ≡ true → (j ≡ 0) × (n < p)) × (result ≡ false → j ≡ 0 → p ≤ n) }
 {
-    if 0 < j {
-        return false;
-    }
-    n < p
+    j == 0 && n < p
 }
 
-// The place of a block in the largest card, 0 where it is in no card; its stretches come into the list.
+// The place of a block in the largest card, 0 where it is in no card, as in the card rule; its stretches come into the list.
 pub fn find(blocks: &[u64], stretches: &[u16], n: usize, key: u64, list: &mut [u16]) -> usize
     requires { CanFind n key blocks.now stretches.now list.old }
     ensures { Found n key blocks.now stretches.now result list.new }
@@ -90,7 +86,7 @@ pub fn read(
     ensures summed { SummedMore n key (max 1 priority) blocks.old stretches.old sums result }
     ensures small { (x : ℕ) → get_or counts.new x 0 ≤ get_or counts.old x 0 + 1 }
 {
-    let p = at_least_one(priority);
+    let p = priority.max(1);
     let mut list = [0u16; LIST_ROOM];
     let j = find(blocks, stretches, n, key, &mut list);
     // The list says all that the tallies ask; the compiled code is shorter with them last.

@@ -1,16 +1,15 @@
 // The row of one place after a read: it stays, or its list goes one place up or down the card, or the block read is put in.
 ghost use Rattle.std.specs.Prelude.{◌≡◌, true, ◌⊎◌, ℕ, ◌+◌, ◌-◌, ◌^◌, ◌<◌, ◌≤◌, min, length};
 ghost use Rattle.engine.specs.Moves.{Family};
-ghost use Rattle.engine.specs.Rows.{row_length, row_of};
+ghost use Rattle.engine.specs.Rows.{row_length, row_of, stretches_length};
 ghost use Rattle.engine.specs.Renewals.{Fits, Ready, Above, Below, Sinks, RowAt, Renewed, Renews, ChangesBelow, Grown, Together};
 
 use crate::rows::{
-    Changes, Span, close, lower_pair, merge_row, move_nothing, raise_list, row_of, write_row,
+    Changes, Span, close, lower_pair, merge_row, move_nothing, raise_list, write_row,
 };
-use terms::numbers::larger;
 
 // A read as the rows see it: the size of the largest card, the length of the longest row, the priority in reach, and the place of the block read in the largest card.
-#[derive(Clone, Copy)]
+#[derive(Clone, Copy, Debug, PartialEq, Eq)]
 pub struct RowRead {
     pub n: u16,
     pub width: usize,
@@ -18,23 +17,29 @@ pub struct RowRead {
     pub j: u16,
 }
 
-// The row of place k.
-pub fn row_at(read: RowRead, k: u16) -> Span
-    requires { (0 < k) × (read.n < 65535) × (read.width ≡ row_length read.n) }
-    ensures { result ≡ row_of read.n k }
-{
-    row_of(read.width, k as usize)
+impl RowRead {
+    // The row of place k.
+    pub fn row(self, k: u16) -> Span
+        requires { (0 < k) × (self.n < 65535) × (self.width ≡ row_length self.n) }
+        ensures lies { result ≡ row_of self.n k }
+        ensures inside { k ≤ self.n → (2 ≤ result.room) × (result.start + result.room ≤ stretches_length self.n) }
+        ensures short { (result.room ≤ self.width) × (result.room < 2 ^ 16) }
+    {
+        Span::of(self.width, k as usize)
+    }
 }
 
-// Both changes together.
-fn with(changes: Changes, more: Changes) -> Changes
-    requires { (changes.gained + more.gained < 2 ^ 64) × (changes.lost + more.lost < 2 ^ 64) }
-    ensures { Together changes more result }
-{
-    Changes {
-        gained: changes.gained + more.gained,
-        lost: changes.lost + more.lost,
-        longest: larger(changes.longest, more.longest),
+impl Changes {
+    // Both together.
+    fn with(self, more: Changes) -> Changes
+        requires { (self.gained + more.gained < 2 ^ 64) × (self.lost + more.lost < 2 ^ 64) }
+        ensures { Together self more result }
+    {
+        Changes {
+            gained: self.gained + more.gained,
+            lost: self.lost + more.lost,
+            longest: self.longest.max(more.longest),
+        }
     }
 }
 
@@ -52,27 +57,21 @@ pub fn above_row(
     ensures grown { Grown changes result (2 ^ 16) }
     ensures renews { Renews list.now read k k changes result area.old area.new }
 {
-    let row = row_at(read, k);
+    let row = read.row(k);
     if area[row.start + 1] < lo {
         return changes;
     }
     let more = merge_row(
         area, row.start, row.room, row.start, row.room, list, scratch, read.p, read.n,
     );
-    with(changes, more)
+    changes.with(more)
 }
 
 // A block at place k that is there at no size, or whose places are all below those of the block read, whose list begins with start and place.
 fn is_below(first: u16, start: u16, place: u16, k: u16) -> bool
     ensures { result ≡ true → (first ≡ 0) ⊎ ((start ≤ first) × (place < k)) }
 {
-    if first == 0 {
-        return true;
-    }
-    if first < start {
-        return false;
-    }
-    place < k
+    first == 0 || (start <= first && place < k)
 }
 
 // The row of place k, which is below p and the block read: nothing changes where the block read was above it wherever it is.
@@ -88,18 +87,17 @@ pub fn below_row(
     ensures grown { Grown changes result (2 ^ 16) }
     ensures renews { Renews list.now read k k changes result area.old area.new }
 {
-    let row = row_at(read, k);
-    let at = row.start;
-    if is_below(area[at], list[0], list[1], k) {
+    let row = read.row(k);
+    if is_below(area[row.start], list[0], list[1], k) {
         return changes;
     }
     let more = merge_row(
         area, row.start, row.room, row.start, row.room, list, scratch, read.p, read.n,
     );
-    with(changes, more)
+    changes.with(more)
 }
 
-// The row of place k gets what was one place above it.
+// The row of place k gets what was one place above it. `up_row` is no case of it: one function for both is not inlined into the sweeps, and cost more.
 pub fn down_row(
     area: &mut [u16],
     list: &[u16],
@@ -112,8 +110,8 @@ pub fn down_row(
     ensures grown { Grown changes result (2 ^ 16) }
     ensures renews { Renews list.now read (k - 1) k changes result area.old area.new }
 {
-    let from = row_at(read, k - 1);
-    let to = row_at(read, k);
+    let from = read.row(k - 1);
+    let to = read.row(k);
     if move_nothing(area, from, to) {
         return changes;
     }
@@ -123,7 +121,7 @@ pub fn down_row(
     let more = merge_row(
         area, from.start, from.room, to.start, to.room, list, scratch, read.p, read.n,
     );
-    with(changes, more)
+    changes.with(more)
 }
 
 // The row of place k gets what was one place below it.
@@ -139,8 +137,8 @@ pub fn up_row(
     ensures grown { Grown changes result (2 ^ 16) }
     ensures renews { Renews list.now read (k + 1) k changes result area.old area.new }
 {
-    let from = row_at(read, k + 1);
-    let to = row_at(read, k);
+    let from = read.row(k + 1);
+    let to = read.row(k);
     if move_nothing(area, from, to) {
         return changes;
     }
@@ -150,7 +148,7 @@ pub fn up_row(
     let more = merge_row(
         area, from.start, from.room, to.start, to.room, list, scratch, read.p, read.n,
     );
-    with(changes, more)
+    changes.with(more)
 }
 
 // The last row that is left gets the block read, or nothing.
@@ -161,16 +159,13 @@ pub fn own_row(area: &mut [u16], read: RowRead, changes: Changes) -> Changes
         → Renewed read J L (min read.p read.n) changes result area.old area.new }
 {
     if read.n < read.p {
-        close(area, row_at(read, read.n), 0);
+        close(area, read.row(read.n), 0);
         return changes;
     }
-    write_row(area, row_at(read, read.p), read.p, read.p);
-    with(
-        changes,
-        Changes {
-            gained: 1,
-            lost: 0,
-            longest: 1,
-        },
-    )
+    write_row(area, read.row(read.p), read.p, read.p);
+    changes.with(Changes {
+        gained: 1,
+        lost: 0,
+        longest: 1,
+    })
 }

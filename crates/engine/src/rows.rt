@@ -6,10 +6,11 @@ ghost use Rattle.engine.specs.Lists.{Begins};
 ghost use Rattle.engine.specs.RowMoves.{InArea, Kept, LoadReady, Loaded, OneWritten, Closed, RowMerged, RowRaised, BothRows, CarriedNone, CarriedDown, CarriedUp, MergeReady, Merged};
 
 use crate::lists::{copy_list, fill, merge, write_pair};
-use terms::LARGEST_SIZE;
+use std::ops::Range;
+use terms::range::LARGEST_SIZE;
 
 // How the number of stretches changed, and the length of the longest list that was made.
-#[derive(Clone, Copy)]
+#[derive(Clone, Copy, Debug, Default, PartialEq, Eq)]
 pub struct Changes {
     pub gained: usize,
     pub lost: usize,
@@ -17,10 +18,32 @@ pub struct Changes {
 }
 
 // Where a row starts in the stretch area, and how many numbers it has room for.
-#[derive(Clone, Copy)]
+#[derive(Clone, Copy, Debug, PartialEq, Eq)]
 pub struct Span {
     pub start: usize,
     pub room: usize,
+}
+
+impl Span {
+    // The row of place k, by the length of the longest row. No other function works out where a row lies.
+    #[tactic(auto, using(crate::proofs::rows::RowLayout::row_is))]
+    pub fn of(longest: usize, k: usize) -> Span
+        requires { (0 < k) × (k < 2 ^ 16) × (longest ≤ 2 ^ 16) }
+        ensures { (n : ℕ) → longest ≡ row_length n → result ≡ row_of n k }
+    {
+        Span {
+            start: (k - 1) * longest,
+            room: longest,
+        }
+    }
+
+    // Its indices.
+    fn range(self) -> Range<usize>
+        requires { self.start + self.room < 2 ^ 64 }
+        ensures { (result.start ≡ self.start) × (result.end ≡ self.start + self.room) }
+    {
+        self.start..self.start + self.room
+    }
 }
 
 // The length of the longest row.
@@ -31,21 +54,11 @@ pub fn row_length(n: usize) -> usize
     2 * ((n + 1) / 2)
 }
 
-// The row of place k, by the length of the longest row. No other function works out where a row lies.
-pub fn row_of(longest: usize, k: usize) -> Span
-    requires { (0 < k) × (k < 2 ^ 16) × (longest ≤ 2 ^ 16) }
-    ensures { (n : ℕ) → longest ≡ row_length n → result ≡ row_of n k }
-{
-    Span {
-        start: (k - 1) * longest,
-        room: longest,
-    }
-}
-
 // The length of all rows of the largest card.
 pub const ALL_ROWS: usize = 2 * LARGEST_SIZE * ((LARGEST_SIZE + 1) / 2);
 
 // The length of all rows.
+#[tactic(auto, using(crate::proofs::Widths::size_small, crate::proofs::rows::RowLayout::stretches_small), unfolding(crate::specs::Rows::stretches_length))]
 pub fn stretches_length(n: usize) -> usize
     requires { n ≤ size.largest }
     ensures { result ≡ stretches_length n }
@@ -60,9 +73,7 @@ fn copy_row(area: &[u16], row: Span, out: &mut [u16]) -> usize
     ensures begins { (R : ℕ → ℕ) (n : ℕ) → Row area.now row (pairs R n) → (result ≡ length (pairs R n)) × Begins out.new R n }
     ensures beyond { (y : ℕ) → result < y → get_or out.new y 0 ≡ get_or out.old y 0 }
 {
-    let at = row.start;
-    let end = at + row.room;
-    copy_list(&area[at..end], out)
+    copy_list(&area[row.range()], out)
 }
 
 // Copies the list of the block at place j up to its end, none where j is 0.
@@ -73,7 +84,7 @@ pub fn load(stretches: &[u16], n: usize, j: usize, out: &mut [u16])
     if j == 0 {
         return;
     }
-    copy_row(stretches, row_of(row_length(n), j), out);
+    copy_row(stretches, Span::of(row_length(n), j), out);
 }
 
 // A row gets the stretches of a block whose list was the other.
@@ -82,9 +93,7 @@ fn renew(area: &mut [u16], row: Span, list: &[u16], other: &[u16], p: u16, n: u1
     ensures kept { (result ≤ row.room) × Kept area.old area.new row.start row.room }
     ensures holds { RowMerged list.now other.now area.old area.new row p n result }
 {
-    let at = row.start;
-    let end = at + row.room;
-    merge(list, other, &mut area[at..end], p, n)
+    merge(list, other, &mut area[row.range()], p, n)
 }
 
 // A row gets one stretch.
@@ -93,9 +102,7 @@ pub fn write_row(area: &mut [u16], row: Span, first: u16, place: u16)
     ensures kept { Kept area.old area.new row.start row.room }
     ensures holds { OneWritten area.old area.new row first place }
 {
-    let at = row.start;
-    let end = at + row.room;
-    write_pair(&mut area[at..end], first, place);
+    write_pair(&mut area[row.range()], first, place);
 }
 
 // A row ends after q entries.
@@ -105,9 +112,7 @@ pub fn close(area: &mut [u16], row: Span, q: usize)
         × ((x : ℕ) → x < q → x < row.room → get_or area.new (row.start + x) 0 ≡ get_or area.old (row.start + x) 0) }
     ensures closed { Closed area.old area.new row q }
 {
-    let at = row.start;
-    let end = at + row.room;
-    fill(&mut area[at..end], q);
+    fill(&mut area[row.range()], q);
 }
 
 // A row with no stretch goes to another as it is; answers whether it was one.
@@ -116,8 +121,7 @@ pub fn move_nothing(area: &mut [u16], from: Span, to: Span) -> bool
     ensures kept { Kept area.old area.new to.start to.room × (result ≡ false → (area.new ≡ area.old) × (0 < get_or area.old from.start 0)) }
     ensures moved { result ≡ true → CarriedNone area.old area.new from to }
 {
-    let at = from.start;
-    if 0 < area[at] {
+    if 0 < area[from.start] {
         return false;
     }
     close(area, to, 0);
@@ -129,10 +133,7 @@ fn lowered_first(first: u16, s: u16) -> u16
     requires { s < 65535 }
     ensures { result ≡ cond (eqb first s) (first + 1) first }
 {
-    if first == s {
-        return first + 1;
-    }
-    first
+    if first == s { first + 1 } else { first }
 }
 
 // The list of place s, where it has one stretch, goes one place down the card; answers whether it had.
@@ -141,11 +142,10 @@ pub fn lower_pair(area: &mut [u16], from: Span, to: Span, s: u16) -> bool
     ensures kept { Kept area.old area.new to.start to.room × (result ≡ false → area.new ≡ area.old) }
     ensures moved { result ≡ true → CarriedDown area.old area.new from to s }
 {
-    let at = from.start;
-    if area[at + 1] != s {
+    if area[from.start + 1] != s {
         return false;
     }
-    let first = lowered_first(area[at], s);
+    let first = lowered_first(area[from.start], s);
     write_row(area, to, first, s + 1);
     true
 }
@@ -156,20 +156,16 @@ fn write_raised(area: &mut [u16], from: Span, to: usize) -> usize
     ensures kept { (result ≤ from.room) × Kept area.old area.new to result }
     ensures raised { RowRaised area.old area.new from to result }
 {
-    let at = from.start;
-    let room = from.room;
-    let mut h = 0;
-    while 2 * h + 1 < room {
+    for h in 0..from.room / 2 {
         let i = 2 * h;
-        let place = area[at + i + 1];
+        let place = area[from.start + i + 1];
         if place == 0 {
             return i;
         }
-        area[to + i] = area[at + i];
+        area[to + i] = area[from.start + i];
         area[to + i + 1] = place - 1;
-        h += 1;
     }
-    2 * h
+    2 * (from.room / 2)
 }
 
 // The list of place s goes one place up the card as it is, where none of its places is below p and the block read, whose list begins with start and place, was above it wherever it is; answers whether it did.
@@ -186,14 +182,7 @@ pub fn raise_list(
     ensures kept { Kept area.old area.new to.start to.room × (result ≡ false → area.new ≡ area.old) }
     ensures moved { result ≡ true → CarriedUp area.old area.new from to s p start place }
 {
-    if s <= place {
-        return false;
-    }
-    let at = from.start;
-    if area[at] < start {
-        return false;
-    }
-    if p < area[at + 1] {
+    if s <= place || area[from.start] < start || p < area[from.start + 1] {
         return false;
     }
     let count = write_raised(area, from, to.start);

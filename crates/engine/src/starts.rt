@@ -13,14 +13,12 @@ fn first_within(list: &[u16], from: usize, most: usize) -> usize
     ensures place { get_or list.now (2 * result + 1) 0 ≤ most }
     ensures passed { (J : ℕ → ℕ) (n : ℕ) → Falling J → Holds list.now J n → Passed J n most from → Passed J n most result }
 {
-    let mut i = from;
-    while i < list.len() / 2 {
+    for i in from..list.len() / 2 {
         if list[2 * i + 1] as usize <= most {
             return i;
         }
-        i += 1;
     }
-    i
+    list.len() / 2
 }
 
 // The first size of a stretch; past every size where there is none.

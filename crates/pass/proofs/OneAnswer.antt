@@ -1,12 +1,15 @@
 -- No two answers of the code mean the same.
 use mathlib.Core.Path.{◌≡◌, ap₂}
+use Rattle.std.specs.Prelude.{ℕ, Result, Ok, Err}
+use Rattle.terms.specs.declared.Refusal.{Refusal}
+use Rattle.terms.specs.declared.Fault.{Fault}
 use Rattle.terms.proofs.Refusals.{one_refusal}
 use Rattle.pass.specs.Answers.{ran_answer}
-use Rattle.pass.specs.declared.answers.Ran.{Ran}
-use Rattle.pass.specs.declared.answers.Ran.TheVariants as the_ran
+use Rattle.pass.specs.declared.answers.Report.{Report}
 
-pub one_ran : (x y : Ran) → ran_answer x ≡ ran_answer y → x ≡ y
-one_ran (the_ran.Done a) (the_ran.Done b) q = cc
-one_ran (the_ran.Done a) (the_ran.Refused r p) q = cc
-one_ran (the_ran.Refused r p) (the_ran.Done b) q = cc
-one_ran (the_ran.Refused r p) (the_ran.Refused s o) q = ap₂ the_ran.Refused (one_refusal r s (cc)) (cc)
+pub one_ran : (x y : Result Report Fault) → ran_answer x ≡ ran_answer y → x ≡ y
+one_ran (Ok a) (Ok b) q = cc
+one_ran (Ok a) (Err f) q = cc
+one_ran (Err f) (Ok b) q = cc
+one_ran (Err f) (Err g) q =
+    ap₂ (λ (refusal : Refusal) (place : ℕ). Err (record { refusal = refusal; place = place })) (one_refusal f.refusal g.refusal (cc)) (cc)

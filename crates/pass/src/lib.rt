@@ -1,5 +1,4 @@
-// What every run does around its events.
+// What every run tells.
 #![tactic(auto)]
 
 pub mod answers;
-pub mod areas;

@@ -5,5 +5,7 @@ pub mod Turns
 pub mod Headers
 pub mod Listings
 pub mod Rooms
+pub mod Measures
+pub mod WaysOut
 pub mod Accepted
 pub mod Determined

@@ -45,7 +45,7 @@ entries_few_one s start at end (Listed number) h g (inl long) weak ih = omega ar
 entries_few_one s start at end (Listed number) h g (inr last) weak ih =
     omega (arith, last, ap (λ (pieces : List Piece). length (entries_of pieces)) (pieces_none s end (omega (arith, last))))
 
-entries_few : (s : List ℕ) (at : ℕ) → at ≤ length s → at + 3 * length (entries_from s at) ≤ length s + 2
+pub entries_few : (s : List ℕ) (at : ℕ) → at ≤ length s → at + 3 * length (entries_from s at) ≤ length s + 2
 unfolding entries_from
 entries_few s = by_pieces s (λ at pieces. at ≤ length s → at + 3 * length (entries_of pieces) ≤ length s + 2)
     (λ at past h. omega arith)

@@ -1,93 +1,92 @@
--- One turn over a trace: what a piece adds to the bytes that are kept and to the entries, from what the reader of a piece answered.
+-- One turn over the pieces: what a piece adds to the bytes that are kept and to the entries, from what is told of it.
 use mathlib.Core.Path.{◌≡◌, refl, sym, ap, ap₂, subst, ◌∙◌}
-use mathlib.Core.List.{List, [], ◌∷◌, ◌++◌}
-use Prim.Native.Nat.{ℕ, ◌+◌, ◌-◌, ◌≤◌, ◌<◌}
+use mathlib.Core.List.{List, [], ◌∷◌, ◌++◌, map}
+use Prim.Native.Nat.{ℕ, ◌-◌, ◌≤◌, ◌<◌}
 use native.Mathlib.Omega.{arith}
 use lib.ListN.{length, take, drop}
+use Rattle.std.proofs.Common.{Option, Some, None}
+use Rattle.std.proofs.lemmas.Grind.{common_steps}
+use Rattle.trace.proofs.Puts.{put_cons}
+use Rattle.salvage.specs.declared.Entry.{Entry}
 use Rattle.salvage.specs.declared.pieces.Piece as the
-use Rattle.salvage.specs.Pieces.{Fate, Kept, Listed, Piece, piece_of, piece_at, pieces_from}
+use Rattle.salvage.specs.Pieces.{Piece, piece_at, pieces_from}
 use Rattle.salvage.specs.Good.{kept_bytes}
 use Rattle.salvage.specs.Listing.{entry_of, entries_of}
-use Rattle.salvage.specs.Steps.{piece_told, kept_from, entries_from, next_at, next_in, next_from}
-use Rattle.salvage.proofs.Onward.{piece_in, pieces_none, pieces_more}
+use Rattle.salvage.specs.Steps.{Told, told, piece_told, told_from, kept_from, entries_from}
+use Rattle.salvage.proofs.Onward.{piece_in, pieces_none, pieces_more, by_pieces}
 
--- what is told of a piece of so many bytes
-told_bounds : (n : ℕ) (f : Fate) → ((piece_told n f).length ≡ n) × ((piece_told n f).kept ≤ n) × ((piece_told n f).entries ≤ 1)
-told_bounds n (Kept r) = (refl, omega arith, omega arith)
-told_bounds n (Listed number) = (refl, omega arith, omega arith)
+-- ---- what is told of pieces
 
--- a piece has a byte and ends within the bytes, and adds no more than itself
-abbrev pub Inside : List ℕ → ℕ → the.Piece → Type 0
-Inside s at a = (1 ≤ a.length) × (at + a.length ≤ length s) × (a.kept ≤ a.length) × (a.entries ≤ 1)
+-- these bytes, if there is no number to list a piece under
+abbrev kept_if : Option ℕ → List ℕ → List ℕ
+kept_if None bytes = bytes
+kept_if (Some number) bytes = []
 
-module _ (s : List ℕ) (at : ℕ) where
-  -- a piece that ends at a place, before those from there on
-  module _ (end : ℕ) where
-    keeps : (f : Fate) → kept_bytes s (piece_of at end f ∷ pieces_from s end) ≡ take (piece_told (end - at) f).kept (drop at s) ++ kept_from s end
-    unfolding kept_from
-    keeps (Kept r) = refl
-    keeps (Listed number) = refl
+-- the bytes that are kept
+abbrev pub kept_told : List ℕ → List Told → List ℕ
+kept_told s [] = []
+kept_told s (t ∷ ts) = kept_if t.number (take (t.end - t.start) (drop t.start s)) ++ kept_told s ts
 
-    counts : (f : Fate) → length (entries_of (piece_of at end f ∷ pieces_from s end)) ≡ (piece_told (end - at) f).entries + length (entries_from s end)
-    unfolding entries_from
-    counts (Kept r) = omega arith
-    counts (Listed number) = omega arith
+-- the entry of a piece with a number, before others
+abbrev listed_if : (start end : ℕ) → Option ℕ → List Entry → List Entry
+listed_if start end None entries = entries
+listed_if start end (Some number) entries = entry_of start (end - start) number ∷ entries
 
-    passes : (f : Fate) → (piece_told (end - at) f).entries ≤ 0 → next_in at (piece_of at end f ∷ pieces_from s end) ≡ next_from s end
-    unfolding next_from
-    passes (Kept r) h = refl
-    passes (Listed number) h = absurd (omega arith)
+-- the entries
+abbrev pub listed_told : List Told → List Entry
+listed_told [] = []
+listed_told (t ∷ ts) = listed_if t.start t.end t.number (listed_told ts)
 
-    finds : (f : Fate) → 0 < (piece_told (end - at) f).entries → next_in at (piece_of at end f ∷ pieces_from s end) ≡ next_at (entry_of at (end - at) (piece_told (end - at) f).number) end
-    finds (Kept r) h = absurd (omega arith)
-    finds (Listed number) h = refl
+-- each piece lies within the bytes
+abbrev pub Inside : List ℕ → List Told → Type 0
+Inside s [] = Unit
+Inside s (t ∷ ts) = (t.start ≤ t.end) × (t.end ≤ length s) × Inside s ts
 
-  module _ (h : at < length s) (a : the.Piece) (e : a ≡ piece_told ((piece_at s at).end - at) (piece_at s at).fate) where
-    long : a.length ≡ (piece_at s at).end - at
-    long = ap (λ (x : the.Piece). x.length) e ∙ (told_bounds ((piece_at s at).end - at) (piece_at s at).fate).0
+-- ---- the pieces from a place on
 
-    pub turn_in : Inside s at a
-    turn_in =
-        let inside = piece_in s at h in
-        let bounds = subst (λ (x : the.Piece). (x.kept ≤ (piece_at s at).end - at) × (x.entries ≤ 1)) (sym e) ((told_bounds ((piece_at s at).end - at) (piece_at s at).fate).1, (told_bounds ((piece_at s at).end - at) (piece_at s at).fate).2) in
-        (omega (arith, long, inside), omega (arith, long, inside), omega (arith, long, bounds), bounds.1)
+module _ (s : List ℕ) where
+  kept_map : (pieces : List Piece) → kept_told s (map told pieces) ≡ kept_bytes s pieces
+  kept_map [] = refl
+  kept_map (piece ∷ pieces) = grind (arith, kept_map pieces)
 
-    ends : (piece_at s at).end ≡ at + a.length
-    ends = omega (arith, long, piece_in s at h)
+  pub kept_told_from : (at : ℕ) → kept_told s (told_from s at) ≡ kept_from s at
+  unfolding told_from kept_from
+  kept_told_from at = kept_map (pieces_from s at)
 
-    here : pieces_from s at ≡ piece_of at (piece_at s at).end (piece_at s at).fate ∷ pieces_from s (piece_at s at).end
-    here = pieces_more s at h ∙ ap (λ (start : ℕ). piece_of start (piece_at s at).end (piece_at s at).fate ∷ pieces_from s (piece_at s at).end) (piece_in s at h).0
+  listed_map : (pieces : List Piece) → listed_told (map told pieces) ≡ entries_of pieces
+  listed_map [] = refl
+  listed_map (piece ∷ pieces) = grind (arith, listed_map pieces)
 
-    pub turn_kept : kept_from s at ≡ take a.kept (drop at s) ++ kept_from s (at + a.length)
-    unfolding kept_from
-    turn_kept =
-        ap (kept_bytes s) here
-        ∙ keeps (piece_at s at).end (piece_at s at).fate
-        ∙ ap₂ (λ (x : the.Piece) (m : ℕ). take x.kept (drop at s) ++ kept_from s m) (sym e) ends
+  pub listed_told_from : (at : ℕ) → listed_told (told_from s at) ≡ entries_from s at
+  unfolding told_from entries_from
+  listed_told_from at = listed_map (pieces_from s at)
 
-    pub turn_entries : length (entries_from s at) ≡ a.entries + length (entries_from s (at + a.length))
-    unfolding entries_from
-    turn_entries =
-        ap (λ (pieces : List Piece). length (entries_of pieces)) here
-        ∙ counts (piece_at s at).end (piece_at s at).fate
-        ∙ ap₂ (λ (x : the.Piece) (m : ℕ). x.entries + length (entries_from s m)) (sym e) ends
+  pub in_from : (at : ℕ) → Inside s (told_from s at)
+  unfolding told_from
+  in_from = by_pieces s (λ at pieces. Inside s (map told pieces)) (λ at past. tt)
+      (λ at l ih. let inside = piece_in s at l in (omega (arith, inside), inside.2, ih))
 
-    pub turn_passes : a.entries ≤ 0 → next_from s at ≡ next_from s (at + a.length)
-    unfolding next_from
-    turn_passes g =
-        ap (next_in at) here
-        ∙ passes (piece_at s at).end (piece_at s at).fate (subst (λ (x : the.Piece). x.entries ≤ 0) e g)
-        ∙ ap (next_from s) ends
+  pub told_none : (at : ℕ) → length s ≤ at → told_from s at ≡ []
+  unfolding told_from
+  told_none at h = ap (map told) (pieces_none s at h)
 
-    pub turn_finds : 0 < a.entries → next_from s at ≡ next_at (entry_of at a.length a.number) (at + a.length)
-    unfolding next_from
-    turn_finds g =
-        ap (next_in at) here
-        ∙ finds (piece_at s at).end (piece_at s at).fate (subst (λ (x : the.Piece). 0 < x.entries) e g)
-        ∙ ap₂ (λ (n m : ℕ). next_at (entry_of at n (piece_told ((piece_at s at).end - at) (piece_at s at).fate).number) m) (sym long) ends
-        ∙ ap (λ (x : the.Piece). next_at (entry_of at a.length x.number) (at + a.length)) (sym e)
+  pub told_more : (at : ℕ) (x : the.Piece) → at < length s → piece_told x ≡ told (piece_at s at) → told_from s at ≡ piece_told x ∷ told_from s x.end
+  unfolding told_from
+  told_more at x h e =
+      ap (map told) (pieces_more s at h)
+      ∙ ap₂ (λ (t : Told) (end : ℕ). t ∷ told_from s end) (sym e) (sym (ap (λ (t : Told). t.end) e))
 
-  -- past the end there is no piece
-  pub no_turn : length s ≤ at → (kept_from s at ≡ []) × (entries_from s at ≡ []) × (next_from s at ≡ next_at (entry_of 0 0 0) at)
-  unfolding next_from kept_from entries_from
-  no_turn h = rw (pieces_none s at h) (refl, refl, refl)
+-- ---- a turn
+
+module _ (s : List ℕ) (left after : List Told) (x : the.Piece) (e : left ≡ piece_told x ∷ after) where
+  pub in_turn : Inside s left → (x.start ≤ x.end) × (x.end ≤ length s) × Inside s after
+  in_turn inside = subst (Inside s) e inside
+
+  pub kept_turn : x.left_out ≡ None → kept_told s left ≡ take (x.end - x.start) (drop x.start s) ++ kept_told s after
+  kept_turn g = rw (e, g)
+
+-- for the iterator
+pub ruleset first_of_pieces = (told_none, told_more)
+
+-- for the list
+pub ruleset listed = (common_steps, in_from, listed_told_from, put_cons)

@@ -1,5 +1,5 @@
 -- What a salvage answers, and what it leaves in the output and in the list.
-use Rattle.std.specs.Prelude.{ℕ, cond, ◌&&◌, List, length, leb}
+use Rattle.std.specs.Prelude.{ℕ, Result, Ok, Err, cond, ◌&&◌, List, length, leb}
 use Rattle.terms.specs.declared.Refusal.TheVariants.{Space}
 use Rattle.terms.specs.Refusals.{number_of}
 use Rattle.terms.specs.Areas.{fronted}
@@ -10,7 +10,8 @@ use Rattle.salvage.specs.Good.{good_of}
 use Rattle.salvage.specs.Listing.{list_of}
 use Rattle.salvage.specs.declared.Entry.{Entry}
 use Rattle.salvage.specs.declared.Salvaged.{Salvaged}
-use Rattle.salvage.specs.declared.Salvaged.TheVariants as the_salvaged
+use Rattle.salvage.specs.declared.Unsalvaged.{Unsalvaged}
+use Rattle.salvage.specs.declared.Unsalvaged.TheVariants.{Header, Short}
 
 -- the bytes and the entries written; or the refusal's number, with its place if it has one
 pub data Salvaging : Type 0 where
@@ -47,7 +48,7 @@ abbrev pub list_left : List ℕ → (space : ℕ) (list : List Entry) → List E
 list_left s space list = area_after (salvaging s space (length list)) (list_of s) list
 
 -- what an answer of the code says, in the table's numbers
-abbrev pub salvaged_answer : Salvaged → Salvaging
-salvaged_answer (the_salvaged.Written bytes entries) = Done bytes entries
-salvaged_answer (the_salvaged.Refused refusal place) = Refused (number_of refusal) place
-salvaged_answer the_salvaged.Short = Unplaced (number_of Space)
+abbrev pub salvaged_answer : Result Salvaged Unsalvaged → Salvaging
+salvaged_answer (Ok salvaged) = Done salvaged.bytes salvaged.entries
+salvaged_answer (Err (Header fault)) = Refused (number_of fault.refusal) fault.place
+salvaged_answer (Err Short) = Unplaced (number_of Space)

@@ -1,20 +1,46 @@
 -- What the functions behind a salvage promise each other.
-use Rattle.std.specs.Prelude.{ℕ, zero, suc, ◌+◌, ◌-◌, List, [], ◌∷◌, set}
+use Rattle.std.specs.Prelude.{ℕ, ◌-◌, Option, Some, None, Result, List, [], ◌∷◌, map}
+use Rattle.std.specs.Option.{option_map}
+use Rattle.terms.specs.Refusals.{number_of}
 use Rattle.trace.specs.Reading.{Reading, Given, Refused}
 use Rattle.salvage.specs.Pieces as pieces
-use Rattle.salvage.specs.Pieces.{Fate, Kept, Listed, pieces_from}
+use Rattle.salvage.specs.Pieces.{Fate, pieces_from}
 use Rattle.salvage.specs.Good.{kept_bytes, good_from}
 use Rattle.salvage.specs.Listing.{entry_of, entries_of}
 use Rattle.salvage.specs.Answers as answers
 use Rattle.salvage.specs.Answers.{Salvaging}
 use Rattle.salvage.specs.declared.Entry.{Entry}
-use Rattle.salvage.specs.declared.listing.Next.{Next}
+use Rattle.salvage.specs.declared.Salvaged.{Salvaged}
+use Rattle.salvage.specs.declared.Unsalvaged.{Unsalvaged}
 use Rattle.salvage.specs.declared.pieces.Piece.{Piece}
+use Rattle.salvage.specs.declared.pieces.Pieces.{Pieces}
 
--- a piece of so many bytes as the code tells it: its length, how many of its bytes are kept, its entries, and their number
-abbrev pub piece_told : (length : ℕ) → Fate → Piece
-piece_told length (Kept r) = record { length = length; kept = length; entries = 0; number = 0 }
-piece_told length (Listed number) = record { length = length; kept = 0; entries = 1; number = number }
+-- a piece without the read that it is kept for: where it begins, the place after it, and the number that it is listed under, if it is
+pub record Told : Type 0 where
+  pub start : ℕ
+  pub end : ℕ
+  pub number : Option ℕ
+
+-- the number that a piece of this fate is listed under
+abbrev pub number_listed : Fate → Option ℕ
+number_listed (pieces.Kept r) = None
+number_listed (pieces.Listed number) = Some number
+
+-- what is told of a piece
+abbrev pub told : pieces.Piece → Told
+told piece = record { start = piece.start; end = piece.end; number = number_listed piece.fate }
+
+-- what the code tells of a piece
+abbrev pub piece_told : Piece → Told
+piece_told piece = record { start = piece.start; end = piece.end; number = option_map number_of piece.left_out }
+
+-- what is told of the pieces from a place of the bytes on
+unfoldable pub told_from : List ℕ → ℕ → List Told
+told_from s at = map told (pieces_from s at)
+
+-- what is told of the pieces that an iterator has left
+abbrev pub pieces_left : Pieces → List Told
+pieces_left left = told_from left.trace.now left.at
 
 -- the bytes that are kept from a place of the bytes on
 unfoldable pub kept_from : List ℕ → ℕ → List ℕ
@@ -29,13 +55,18 @@ unfoldable pub entries_from : List ℕ → ℕ → List Entry
 entries_from s at = entries_of (pieces_from s at)
 
 -- an entry, and the place after its piece
+pub record Next : Type 0 where
+  pub entry : Entry
+  pub at : ℕ
+
+-- the two together
 abbrev pub next_at : Entry → ℕ → Next
 next_at entry at = record { entry = entry; at = at }
 
 -- the entry of a piece that is listed, or what comes after one that is kept
 abbrev pub or_next : (start end : ℕ) → Fate → Next → Next
-or_next start end (Kept r) next = next
-or_next start end (Listed number) next = next_at (entry_of start (end - start) number) end
+or_next start end (pieces.Kept r) next = next
+or_next start end (pieces.Listed number) next = next_at (entry_of start (end - start) number) end
 
 -- the first entry of the pieces from a place on; zeros where there is none
 abbrev pub next_in : ℕ → List pieces.Piece → Next
@@ -46,10 +77,11 @@ next_in at (piece ∷ pieces) = or_next piece.start piece.end piece.fate (next_i
 unfoldable pub next_from : List ℕ → ℕ → Next
 next_from s at = next_in at (pieces_from s at)
 
--- n entries from a place of the bytes on, put into a list from an index on
-abbrev pub written : (n : ℕ) → List ℕ → (at index : ℕ) → List Entry → List Entry
-written zero s at index list = list
-written (suc n) s at index list = written n s (next_from s at).at (index + 1) (set list index (next_from s at).entry)
+-- an answer; and for the list, where the first piece begins and how many entries it is to hold
+pub record Kept : Type 0 where
+  pub answer : Result Salvaged Unsalvaged
+  pub start : ℕ
+  pub entries : ℕ
 
 -- how many entries an answer asks for
 abbrev pub entries_told : Salvaging → ℕ

@@ -1,131 +1,63 @@
-// The good trace: measured, and then written if there is space for it and for the list.
-ghost use Rattle.std.specs.Prelude.{◌≡◌, ◌+◌, ◌≤◌, length};
-ghost use Rattle.trace.specs.Writing.{put};
-ghost use Rattle.salvage.specs.Pieces.{pieces_of};
-ghost use Rattle.salvage.specs.Good.{good_of};
-ghost use Rattle.salvage.specs.Answers.{spaced, salvaging, salvaged_answer, area_after};
-ghost use Rattle.salvage.specs.Steps.{kept_from, good_after, entries_from, entries_told, start_of};
+// What is kept of a trace and what is left out of it: measured, written and listed.
+ghost use Rattle.std.specs.Prelude.{◌≡◌, ◌≤◌, length};
+ghost use Rattle.terms.specs.Areas.{fronted};
+ghost use Rattle.salvage.specs.Steps.{good_after, entries_from};
 
-use crate::Salvaged;
-use crate::pieces::piece_at;
-use terms::LARGEST_SIZE;
-use trace::header::{Header, read_header};
+use crate::pieces::pieces_from;
+use crate::{Entry, Salvaged};
 
-// How many bytes are kept and how many entries are listed.
-#[derive(Clone, Copy)]
-struct Need {
-    bytes: usize,
-    entries: usize,
-}
-
-// The answer; and for the list, the place from which to look for its first entry and how many entries it is to hold.
-#[derive(Clone, Copy)]
-pub struct Kept {
-    pub answer: Salvaged,
-    pub start: usize,
-    pub entries: usize,
-}
-
-// What the pieces from a place of a trace on add up to.
-fn measure(trace: &[u8], from: usize) -> Need
-    requires { from ≤ length trace.now }
-    ensures { (result.bytes ≡ length (kept_from trace.now from))
-        × (result.entries ≡ length (entries_from trace.now from)) }
-{
-    let mut at = from;
-    let mut bytes: usize = 0;
-    let mut entries: usize = 0;
-    while at < trace.len() {
-        let piece = piece_at(trace, at);
-        bytes = bytes + piece.kept;
-        entries = entries + piece.entries;
-        at = at + piece.length;
-    }
-    Need {
-        bytes: bytes,
-        entries: entries,
-    }
-}
-
-// Puts bytes into a buffer from an offset on.
-fn copy_bytes(buffer: &mut [u8], at: usize, bytes: &[u8])
-    requires { at + length bytes.now ≤ length buffer.old }
-    ensures { buffer.new ≡ put buffer.old at bytes.now }
-{
-    let mut i = 0;
-    while i < bytes.len() {
-        buffer[at + i] = bytes[i];
-        i += 1;
-    }
-}
-
-// Puts the pieces that are kept from a place of a trace on into a buffer from an offset on.
-fn copy_kept(buffer: &mut [u8], to: usize, trace: &[u8], from: usize)
-    requires { (from ≤ length trace.now) × (to + length (kept_from trace.now from) ≤ length buffer.old) }
-    ensures { buffer.new ≡ put buffer.old to (kept_from trace.now from) }
-{
-    let mut at = from;
-    let mut next = to;
-    while at < trace.len() {
-        let piece = piece_at(trace, at);
-        copy_bytes(buffer, next, &trace[at..at + piece.kept]);
-        next = next + piece.kept;
-        at = at + piece.length;
-    }
-}
-
-// A refusal: nothing was written, and there is no entry to write.
-fn unwritten(answer: Salvaged, start: usize) -> Kept
-    ensures { (result.answer ≡ answer) × (result.start ≡ start) × (result.entries ≡ 0) }
-{
-    Kept {
-        answer: answer,
-        start: start,
-        entries: 0,
-    }
-}
-
-// The header, which ends at a place, and what is kept after it, if they fit the output and the list fits its room.
-fn keep_after(trace: &[u8], start: usize, out: &mut [u8], room: usize) -> Kept
+// The bytes that are kept, the header's too, which ends at a place, and the entries of the rest.
+#[tactic(auto, using(crate::proofs::Measures::measures))]
+pub fn measure(trace: &[u8], start: usize) -> Salvaged
     requires { start ≤ length trace.now }
-    ensures { (salvaged_answer result.answer ≡ spaced (length (good_after trace.now start)) (length (entries_from trace.now start)) (length out.old) room)
-        × (out.new ≡ area_after (salvaged_answer result.answer) (good_after trace.now start) out.old)
-        × (result.start ≡ start)
-        × (result.entries ≡ entries_told (salvaged_answer result.answer)) }
+    ensures { (result.bytes ≡ length (good_after trace.now start))
+        × (result.entries ≡ length (entries_from trace.now start)) }
 {
-    let need = measure(trace, start);
-    let bytes = start + need.bytes;
-    if out.len() < bytes {
-        return unwritten(Salvaged::Short, start);
+    let mut need = Salvaged {
+        bytes: start,
+        entries: 0,
+    };
+    for piece in pieces_from(trace, start) {
+        match piece.left_out {
+            None => need.bytes += piece.end - piece.start,
+            Some(_) => need.entries += 1,
+        }
     }
-    if room < need.entries {
-        return unwritten(Salvaged::Short, start);
-    }
-    copy_bytes(out, 0, &trace[..start]);
-    copy_kept(out, start, trace, start);
-    Kept {
-        answer: Salvaged::Written {
-            bytes: bytes,
-            entries: need.entries,
-        },
-        start: start,
-        entries: need.entries,
+    need
+}
+
+// Puts the header, which ends at a place, and the pieces that are kept after it at the front of the output.
+#[tactic(auto, using(crate::proofs::good::Keeps::keeps))]
+pub fn copy_kept(out: &mut [u8], trace: &[u8], start: usize)
+    requires { (start ≤ length trace.now) × (length (good_after trace.now start) ≤ length out.old) }
+    ensures { out.new ≡ fronted (good_after trace.now start) out.old }
+{
+    out[..start].copy_from_slice(&trace[..start]);
+    let mut next = start;
+    for piece in pieces_from(trace, start) {
+        if piece.left_out.is_none() {
+            let end = next + (piece.end - piece.start);
+            out[next..end].copy_from_slice(&trace[piece.start..piece.end]);
+            next = end;
+        }
     }
 }
 
-// All but the list, of which only the room is told.
-pub fn keep_bytes(trace: &[u8], out: &mut [u8], room: usize) -> Kept
-    ensures { (salvaged_answer result.answer ≡ salvaging trace.now (length out.old) room)
-        × (out.new ≡ area_after (salvaged_answer result.answer) (good_of trace.now) out.old)
-        × (result.start ≡ start_of (pieces_of trace.now))
-        × (result.entries ≡ entries_told (salvaged_answer result.answer)) }
+// Puts an entry for each piece that is left out at the front of the list.
+#[tactic(auto, using(crate::proofs::Turns::listed))]
+pub fn list_left_out(list: &mut [Entry], trace: &[u8], start: usize)
+    requires { length (entries_from trace.now start) ≤ length list.old }
+    ensures { list.new ≡ fronted (entries_from trace.now start) list.old }
 {
-    match read_header(trace, LARGEST_SIZE as u64) {
-        Header::Accepted {
-            edition: _,
-            size: _,
-            length,
-        } => keep_after(trace, length, out, room),
-        Header::Refused(why, place) => unwritten(Salvaged::Refused(why, place), 0),
+    let mut next = 0;
+    for piece in pieces_from(trace, start) {
+        if let Some(refusal) = piece.left_out {
+            list[next] = Entry {
+                offset: piece.start as u64,
+                length: (piece.end - piece.start) as u64,
+                number: u64::from(u32::from(refusal)),
+            };
+            next += 1;
+        }
     }
 }

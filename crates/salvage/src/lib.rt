@@ -1,62 +1,57 @@
 // Salvage: a good trace from one with bad records, and a list of what was left out.
 #![tactic(auto)]
 
-ghost use Rattle.std.specs.Prelude.{◌≡◌, ◌≤◌, length};
+ghost use Rattle.std.specs.Prelude.{◌≡◌, length};
 ghost use Rattle.salvage.specs.Good.{good_of};
 ghost use Rattle.salvage.specs.Listing.{list_of};
 ghost use Rattle.salvage.specs.Answers.{salvaging, salvaged_answer, area_after};
-ghost use Rattle.salvage.specs.Steps.{written};
 
-use crate::good::keep_bytes;
-use crate::listing::next_entry;
-use terms::Refusal;
+use crate::good::{copy_kept, list_left_out, measure};
+use terms::Fault;
+use terms::range::LARGEST_SIZE;
+use trace::header::read_header;
 
-pub mod good;
-pub mod listing;
+mod good;
 mod pieces;
 
 // Bytes that were left out: their offset in the trace, how many they are, and the number of the refusal.
 #[repr(C)]
-#[derive(Clone, Copy)]
+#[derive(Clone, Copy, Debug, PartialEq, Eq)]
 pub struct Entry {
     pub offset: u64,
     pub length: u64,
     pub number: u64,
 }
 
-#[derive(Clone, Copy)]
-pub enum Salvaged {
-    // The bytes of the good trace and the entries of the list.
-    Written { bytes: usize, entries: usize },
-    // Why the header is refused, and the offset of the number at fault.
-    Refused(Refusal, usize),
+// The bytes of the good trace and the entries of the list.
+#[derive(Clone, Copy, Debug, PartialEq, Eq)]
+pub struct Salvaged {
+    pub bytes: usize,
+    pub entries: usize,
+}
+
+// Why nothing was salvaged.
+#[derive(Clone, Copy, Debug, PartialEq, Eq)]
+pub enum Unsalvaged {
+    // The header is refused.
+    Header(Fault),
     // The output or the list is too short for this trace.
     Short,
 }
 
-// Puts the first n entries from a place of a trace on into the list.
-fn write_entries(list: &mut [Entry], trace: &[u8], from: usize, n: usize)
-    requires { n ≤ length list.old }
-    ensures { list.new ≡ written n trace.now from 0 list.old }
-{
-    let mut k: usize = 0;
-    let mut at: usize = from;
-    while k < n {
-        let next = next_entry(trace, at);
-        list[k] = next.entry;
-        at = next.at;
-        k += 1;
-    }
-}
-
-// Writes the header and the records that can be kept, and lists the rest. The list is lent as structs, which only these
-// two functions touch; what it is to hold comes from the others.
-pub fn salvage(trace: &[u8], out: &mut [u8], list: &mut [Entry]) -> Salvaged
+// Writes the header and the records that can be kept, and lists the rest.
+#[tactic(auto, using(crate::proofs::WaysOut::header_refused), unfolding(terms::specs::Ranges::size))]
+pub fn salvage(trace: &[u8], out: &mut [u8], list: &mut [Entry]) -> Result<Salvaged, Unsalvaged>
     ensures { (salvaged_answer result ≡ salvaging trace.now (length out.old) (length list.old))
         × ((out.new ≡ area_after (salvaged_answer result) (good_of trace.now) out.old)
         × (list.new ≡ area_after (salvaged_answer result) (list_of trace.now) list.old)) }
 {
-    let kept = keep_bytes(trace, out, list.len());
-    write_entries(list, trace, kept.start, kept.entries);
-    kept.answer
+    let header = read_header(trace, LARGEST_SIZE as u64).map_err(Unsalvaged::Header)?;
+    let need = measure(trace, header.length);
+    if out.len() < need.bytes || list.len() < need.entries {
+        return Err(Unsalvaged::Short);
+    }
+    copy_kept(out, trace, header.length);
+    list_left_out(list, trace, header.length);
+    Ok(need)
 }

@@ -1,69 +1,79 @@
-// The pieces of a trace after its header: a record that is kept, or bytes that are listed.
-ghost use Rattle.std.specs.Prelude.{◌≡◌, ◌-◌, ◌≤◌, length};
-ghost use Rattle.terms.specs.Refusals.{number_of};
+// The pieces of a trace after its header: a record that is kept, or bytes that are left out.
+ghost use Rattle.std.specs.Prelude.{◌≡◌, ◌≤◌, length};
+ghost use Rattle.std.specs.Iterator.{YieldsFirstBy, item_count};
 ghost use Rattle.trace.specs.Reading.{formed_at};
-ghost use Rattle.salvage.specs.Pieces.{Listed, form_end, piece_at};
-ghost use Rattle.salvage.specs.Steps.{piece_told};
+ghost use Rattle.salvage.specs.Pieces.{form_end, piece_at};
+ghost use Rattle.salvage.specs.Steps.{told, told_from, piece_told, pieces_left};
 
-use terms::{Refusal, refusal_number};
-use trace::record::{Record, read_form, read_record};
+use terms::Refusal;
+use trace::record::{read_form, read_record};
 
-// How long a piece is, how many of its bytes are kept, how many entries it has, and the number of the refusal.
-#[derive(Clone, Copy)]
+// Where a piece begins, the place after it, and why its bytes are left out where they are.
+#[derive(Clone, Copy, Debug, PartialEq, Eq)]
 pub struct Piece {
-    pub length: usize,
-    pub kept: usize,
-    pub entries: usize,
-    pub number: u32,
+    pub start: usize,
+    pub end: usize,
+    pub left_out: Option<Refusal>,
 }
 
-fn listed(length: usize, why: Refusal) -> Piece
-    ensures { result ≡ piece_told length (Listed (number_of why)) }
+// How long a record is that is refused: as long as its numbers where these are well formed, and else all that is left.
+fn refused_length(part: &[u8]) -> usize
+    ensures { result ≡ form_end (length part.now) (formed_at part.now 0) }
 {
-    Piece {
-        length: length,
-        kept: 0,
-        entries: 1,
-        number: refusal_number(why),
-    }
-}
-
-// A record that is refused: by itself where its numbers are well formed, and else with all that follows it.
-fn left_out(trace: &[u8], at: usize, first: Refusal) -> Piece
-    requires { at ≤ length trace.now }
-    ensures { result ≡ piece_told (form_end (length trace.now) (formed_at trace.now at) - at) (Listed (number_of first)) }
-{
-    let part = &trace[at..];
     match read_form(part) {
-        Record::Read {
-            volume: _,
-            block: _,
-            priority: _,
-            priority_at: _,
-            length,
-        } => listed(length, first),
-        Record::Refused(_, _) => listed(part.len(), first),
+        Ok(record) => record.length,
+        Err(_) => part.len(),
     }
 }
 
 // The piece that begins at a place of a trace.
-pub fn piece_at(trace: &[u8], at: usize) -> Piece
-    requires { at ≤ length trace.now }
-    ensures { result ≡ piece_told ((piece_at trace.now at).end - at) (piece_at trace.now at).fate }
+#[tactic(auto, using(crate::proofs::pieces::Cases::piece_cases))]
+fn piece_at(trace: &[u8], start: usize) -> Piece
+    requires { start ≤ length trace.now }
+    ensures { piece_told result ≡ told (piece_at trace.now start) }
 {
-    match read_record(&trace[at..]) {
-        Record::Read {
-            volume: _,
-            block: _,
-            priority: _,
-            priority_at: _,
-            length,
-        } => Piece {
-            length: length,
-            kept: length,
-            entries: 0,
-            number: 0,
+    let part = &trace[start..];
+    match read_record(part) {
+        Ok(record) => Piece {
+            start,
+            end: start + record.length,
+            left_out: None,
         },
-        Record::Refused(first, _) => left_out(trace, at, first),
+        Err(fault) => Piece {
+            start,
+            end: start + refused_length(part),
+            left_out: Some(fault.refusal),
+        },
+    }
+}
+
+// The pieces of a trace from a place to its end, one after the other.
+#[derive(Drop)]
+pub struct Pieces<'a> {
+    trace: &'a [u8],
+    at: usize,
+}
+
+pub fn pieces_from(trace: &[u8], at: usize) -> Pieces<'_>
+    ensures { pieces_left result ≡ told_from trace.now at }
+{
+    Pieces { trace, at }
+}
+
+impl Iterator for Pieces<'_> {
+    type Item = Piece;
+
+    ghost next_gives = { YieldsFirstBy piece_told pieces_left };
+
+    ghost remaining = { item_count pieces_left };
+
+    #[tactic(auto, using(crate::proofs::Turns::first_of_pieces))]
+    fn next(&mut self) -> Option<Piece> {
+        if self.trace.len() <= self.at {
+            return None;
+        }
+        let piece = piece_at(self.trace, self.at);
+        self.at = piece.end;
+        Some(piece)
     }
 }

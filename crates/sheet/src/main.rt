@@ -14,7 +14,7 @@ use std::io::{ErrorKind, Read, Write};
 use std::process::ExitCode;
 use std::rt::Files;
 use std::{fs, io};
-use terms::LARGEST_SIZE;
+use terms::range::LARGEST_SIZE;
 
 // No sheet is longer.
 const LONGEST_SHEET: usize = 32768;
@@ -47,6 +47,7 @@ fn read_input<R: Read>(reader: &mut R, input: &mut [u8]) -> io::Result<usize>
     ensures end { IfOk result (λ taken. taken < length input.new → IsAtEnd (R.remaining reader.new)) }
 {
     let mut length = 0;
+    // A turn goes on by as many bytes as the read brought.
     while length < input.len() {
         let more = read_some(reader, &mut input[length..])?;
         if more == 0 {
@@ -121,11 +122,8 @@ fn main(rt: HostRuntime) -> ExitCode {
         Ok(length) => length,
         Err(error) => return fail(&rt, "standard input", error),
     };
-    if let Err(error) = print_sheet(&input[..length], &mut rt.stdout()) {
-        return fail(&rt, "standard output", error);
+    match print_sheet(&input[..length], &mut rt.stdout()).and_then(|()| sync_output(&rt)) {
+        Ok(()) => ExitCode::SUCCESS,
+        Err(error) => fail(&rt, "standard output", error),
     }
-    if let Err(error) = sync_output(&rt) {
-        return fail(&rt, "standard output", error);
-    }
-    ExitCode::SUCCESS
 }

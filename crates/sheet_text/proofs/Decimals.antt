@@ -67,6 +67,10 @@ decimal_length = decimal_induct (λ n ds. (k : ℕ) → n < 10 ^ suc k → lengt
 pub decimal_short : (n : ℕ) → n < 2 ^ 64 → length (decimal n) ≤ 20
 decimal_short n h = decimal_length n 19 (omega arith)
 
+-- with room for one digit more
+pub decimal_shorter : (n : ℕ) → n < 10 ^ 19 → length (decimal n) ≤ 19
+decimal_shorter n h = decimal_length n 18 h
+
 pub decimal_some : (n : ℕ) → 1 ≤ length (decimal n)
 decimal_some = decimal_induct (λ n ds. 1 ≤ length ds) (λ n h. omega arith) (λ n h ih. omega (arith, length-append (decimal (n / 10)) (digit (n % 10) ∷ [])))
 

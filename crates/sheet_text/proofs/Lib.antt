@@ -1,5 +1,4 @@
 pub mod Decimals
 pub mod Puts
-pub mod PutCases
 pub mod SheetFacts
 pub mod Hints

@@ -1,23 +1,23 @@
 -- Laws of bytes that are put into a text one after the other.
-use mathlib.Core.Path.{◌≡◌, refl, sym, ap, ap₂, ◌∙◌}
+use mathlib.Core.Path.{◌≡◌, refl, sym, ap, ap₂, subst, ◌∙◌}
 use mathlib.Core.List.{List, [], ◌∷◌, ◌++◌}
-use Prim.Native.Nat.{ℕ, suc, ◌+◌}
+use Prim.Native.Nat.{ℕ, suc, ◌+◌, ◌/◌, ◌%◌, ◌≤◌, ◌<◌}
 use native.Mathlib.Nat.{add-zero}
 use native.Mathlib.Omega.{arith}
-use lib.ListN.{length, set, length-set, length-append}
+use lib.ListN.{length, get_or, take, set, length-append}
 use lib.Seq.{take-nil}
+use Rattle.std.proofs.lemmas.List.{take_more}
+use Rattle.sheet_text.specs.declared.text.Text.{Text}
+use Rattle.sheet_text.specs.Decimal.{digit, decimal}
 use Rattle.sheet_text.specs.Sheet.{shown}
-use Rattle.sheet_text.specs.Writing.{put_from, Wrote}
+use Rattle.sheet_text.specs.Writing.{put_from, Wrote, Takes}
+use Rattle.sheet_text.proofs.Decimals.{decimal_low, decimal_step}
 
 -- ---- one write after the other
 
-pub put_none : {text : List ℕ} {at : ℕ} → Wrote text text at at []
+put_none : {text : List ℕ} {at : ℕ} → Wrote text text at at []
 unfolding put_from
 put_none {text} {at} = record { text = refl; place = omega arith }
-
-pub put_one : {text : List ℕ} {at b : ℕ} → Wrote text (set text at b) at (at + 1) (b ∷ [])
-unfolding put_from
-put_one {text} {at} {b} = record { text = refl; place = omega arith }
 
 put_both : (s : List ℕ) (at : ℕ) (xs ys : List ℕ) → put_from (put_from s at xs) (at + length xs) ys ≡ put_from s at (xs ++ ys)
 unfolding put_from
@@ -27,21 +27,13 @@ put_both s at (b ∷ xs) ys = ap (λ (n : ℕ). put_from (put_from (set s at b) 
     past : at + suc (length xs) ≡ at + 1 + length xs
     past = omega arith
 
-pub put_then : {a b c : List ℕ} {at mid end : ℕ} {xs ys : List ℕ} → Wrote a b at mid xs → Wrote b c mid end ys → Wrote a c at end (xs ++ ys)
+put_then : {a b c : List ℕ} {at mid end : ℕ} {xs ys : List ℕ} → Wrote a b at mid xs → Wrote b c mid end ys → Wrote a c at end (xs ++ ys)
 put_then {a} {b} {c} {at} {mid} {end} {xs} {ys} v w = record {
   text = w.text ∙ ap₂ (λ (s : List ℕ) (n : ℕ). put_from s n ys) v.text v.place ∙ put_both a at xs ys;
   place = omega (arith, v.place, w.place, length-append xs ys);
 }
 
--- ---- what a write leaves
-
-length_put : (s : List ℕ) (at : ℕ) (xs : List ℕ) → length (put_from s at xs) ≡ length s
-unfolding put_from
-length_put s at [] = refl
-length_put s at (b ∷ xs) = length_put (set s at b) (at + 1) xs ∙ length-set s at b
-
-pub put_length : {a b : List ℕ} {at end : ℕ} {xs : List ℕ} → Wrote a b at end xs → length b ≡ length a
-put_length {a} {b} {at} {end} {xs} w = ap length w.text ∙ length_put a at xs
+-- ---- what a write from the front leaves
 
 -- nothing fits
 put_nil : (at : ℕ) (xs : List ℕ) → put_from [] at xs ≡ []
@@ -66,3 +58,22 @@ put_front (x ∷ s) (b ∷ xs) = put_later b s 0 xs ∙ ap (λ (l : List ℕ). b
 
 pub put_shown : {text last : List ℕ} {end : ℕ} {bytes : List ℕ} → Wrote text last 0 end bytes → last ≡ shown bytes text
 put_shown {text} {last} {end} {bytes} w = w.text ∙ put_front text bytes
+
+-- ---- the same of a text
+
+pub takes_none : {a : Text} → Takes a a []
+takes_none = record { wrote = put_none; same = refl }
+
+pub takes_then : {a b c : Text} {xs ys : List ℕ} → Takes a b xs → Takes b c ys → Takes a c (xs ++ ys)
+takes_then v w = record { wrote = put_then v.wrote w.wrote; same = w.same ∙ v.same }
+
+pub takes_next : {a b c : Text} (words : List ℕ) (i : ℕ) → Takes a b (take i words) → i < length words → Takes b c (get_or words i 0 ∷ []) → Takes a c (take (i + 1) words)
+takes_next {a} {b} {c} words i v h w = subst (Takes a c) (sym (take_more words i 0 h)) (takes_then v w)
+
+-- ---- a number, which is its tenth and one more digit
+
+pub takes_digit : {a b : Text} (n : ℕ) → n < 10 → Takes a b (digit (n % 10) ∷ []) → Takes a b (decimal n)
+takes_digit {a} {b} n h w = let same : n % 10 ≡ n = omega arith in subst (Takes a b) (ap (λ (d : ℕ). digit d ∷ []) same ∙ sym (decimal_low n h)) w
+
+pub takes_digits : {a b c : Text} (n : ℕ) → 10 ≤ n → Takes a b (decimal (n / 10)) → Takes b c (digit (n % 10) ∷ []) → Takes a c (decimal n)
+takes_digits {a} {b} {c} n h v w = subst (Takes a c) (sym (decimal_step n h)) (takes_then v w)

@@ -24,20 +24,12 @@ use Rattle.sizes.specs.Answers.{areas_of, AreasAre}
 use Rattle.counts.proofs.Tables.{counts_length_lem, count_at}
 use Rattle.sizes.proofs.RanFacts.{Accepted, done_accepted, accepted_done, areas_determined}
 use Rattle.sizes.proofs.RoomFacts.{room_less, answer_by_trace}
-use Rattle.sheet_text.specs.Sheet.{heading, cell, spaced, spaced_row, line_of, lines_of, refused_line, sheet_of, shown, Shows}
+use Rattle.sheet_text.specs.Sheet.{heading, cell, lines_of, refused_line, sheet_of, shown, Shows}
 use Rattle.sheet_text.specs.Desk.{largest_input, is_large, desk_sheet_of, areas_after, printed_by, printed_of}
 use Rattle.sheet_text.proofs.sheet.Bounds.{size_within, trace_size}
+use Rattle.sheet_text.proofs.sheet.Lines.{line_same}
 
 -- ---- lines with the same counts
-
-row_same : (f g : ℕ → ℕ) (k : ℕ) → ((o : ℕ) → o < k → f o ≡ g o) → spaced_row k f ≡ spaced_row k g
-unfolding spaced_row
-row_same f g zero h = refl
-row_same f g (suc k) h = ap₂ (λ (x y : List ℕ). x ++ y) (row_same f g k (λ o l. h o (omega arith))) (ap spaced (h k (omega arith)))
-
-line_same : (f g : ℕ → ℕ) (m : ℕ) → ((o : ℕ) → o < columns → f o ≡ g o) → line_of f m ≡ line_of g m
-unfolding line_of
-line_same f g m h = rw (row_same f g columns h, h 4 (omega arith), h 5 (omega arith))
 
 lines_same : (f g : ℕ → ℕ → ℕ) (n : ℕ) → ((m o : ℕ) → m < n → o < columns → f m o ≡ g m o) → lines_of f n ≡ lines_of g n
 unfolding lines_of

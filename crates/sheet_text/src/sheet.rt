@@ -1,85 +1,74 @@
 // The sheet of a trace: the reads and the peaks, then a line for each size, or one line that says why there is none.
-ghost use Rattle.std.specs.Prelude.{◌≡◌, ℕ, ◌+◌, ◌*◌, ◌^◌, ◌<◌, ◌≤◌, length};
+ghost use Rattle.std.specs.Prelude.{◌≡◌, ℕ, ◌+◌, ◌*◌, ◌^◌, ◌<◌, ◌≤◌, length, slice_index};
 ghost use Rattle.terms.specs.Ranges.{size};
 ghost use Rattle.trace.specs.Reading.{header_at};
 ghost use Rattle.counts.specs.Columns.{columns, counts_length};
 ghost use Rattle.sizes.specs.Answers.{areas_of, AreasAre, run_in};
-ghost use Rattle.sheet_text.specs.Sheet.{cell, heading, spaced_row, line_of, lines_of, size_in, sheet_of, longest_sheet, Shows};
-ghost use Rattle.sheet_text.specs.Writing.{Wrote};
+ghost use Rattle.sheet_text.specs.Sheet.{cell, heading, line_of, lines_of, size_in, sheet_of, longest_sheet, Shows};
+ghost use Rattle.sheet_text.specs.Writing.{CanCount, Takes};
 
-use crate::text::{put_number, put_refused, put_spaced, put_words};
+use crate::text::Text;
 use counts::tallies::COLUMNS;
-use pass::answers::{Ran, Report};
+use pass::answers::Report;
 use sizes::run::run;
-use terms::{LARGEST_SIZE, refusal_number};
-use trace::header::{Header, read_header};
+use terms::range::LARGEST_SIZE;
+use trace::header::read_header;
 
 // The first line.
-fn put_heading(text: &mut [u8], report: Report) -> usize
-    ensures { Wrote text.old text.new 0 result (heading report) × (result ≤ 128) }
+fn put_heading(text: &mut Text, report: Report)
+    requires { CanCount text.old 128 }
+    ensures takes { Takes text.old text.new (heading report) }
+    ensures short { text.new.length ≤ text.old.length + 128 }
 {
-    let mut at = put_words(text, 0, b"accesses");
-    at = put_spaced(text, at, report.reads);
-    at = put_words(text, at, b" stretches");
-    at = put_spaced(text, at, report.total);
-    at = put_words(text, at, b" block");
-    at = put_spaced(text, at, report.one);
-    put_words(text, at, b"\n")
+    text.put_words(b"accesses");
+    text.put_spaced(report.reads);
+    text.put_words(b" stretches");
+    text.put_spaced(report.total);
+    text.put_words(b" block");
+    text.put_spaced(report.one);
+    text.put_words(b"\n");
 }
 
-// The counts of the size after m sizes.
-fn put_counts(text: &mut [u8], from: usize, counts: &[u64], m: usize) -> usize
-    requires { (from < 2 ^ 41) × (counts_length (m + 1) ≤ length counts.now) }
-    ensures { Wrote text.old text.new from result (spaced_row columns (cell counts.now m)) × (result ≤ from + columns * 21) }
+// The line of the size after m sizes, from its counts.
+fn put_line(text: &mut Text, m: usize, counts: &[u64])
+    requires room { CanCount text.old 256 }
+    requires size { m + 1 < 2 ^ 64 }
+    requires all { length counts.now ≡ columns }
+    requires misses { slice_index counts.now 4 + slice_index counts.now 5 < 2 ^ 64 }
+    ensures takes { Takes text.old text.new (line_of (slice_index counts.now) m) }
+    ensures short { text.new.length ≤ text.old.length + 256 }
 {
-    let mut at = from;
-    let mut k = 0;
-    while k < COLUMNS {
-        at = put_spaced(text, at, counts[COLUMNS * m + k]);
-        k += 1;
+    text.put_number((m + 1) as u64);
+    text.put_spaced(counts[4] + counts[5]);
+    for count in counts {
+        text.put_spaced(*count);
     }
-    at
-}
-
-// The line of the size after m sizes.
-fn put_line(text: &mut [u8], from: usize, counts: &[u64], m: usize) -> usize
-    requires { (from < 2 ^ 40) × (m < 2 ^ 32) × (counts_length (m + 1) ≤ length counts.now) × (cell counts.now m 4 + cell counts.now m 5 < 2 ^ 64) }
-    ensures { Wrote text.old text.new from result (line_of (cell counts.now m) m) × (result ≤ from + 256) }
-{
-    let mut at = put_number(text, from, (m + 1) as u64);
-    at = put_spaced(text, at, counts[COLUMNS * m + 4] + counts[COLUMNS * m + 5]);
-    at = put_counts(text, at, counts, m);
-    put_words(text, at, b"\n")
+    text.put_words(b"\n");
 }
 
 // The lines of sizes 1 to n.
-fn put_lines(text: &mut [u8], from: usize, counts: &[u64], n: usize) -> usize
-    requires { (from < 2 ^ 20) × (n < 2 ^ 16) × (counts_length n ≤ length counts.now) × ((m : ℕ) → m < n → cell counts.now m 4 + cell counts.now m 5 < 2 ^ 64) }
-    ensures { Wrote text.old text.new from result (lines_of (cell counts.now) n) × (result ≤ from + n * 256) }
+fn put_lines(text: &mut Text, counts: &[u64], n: usize)
+    requires room { CanCount text.old (n * 256) }
+    requires all { counts_length n ≤ length counts.now }
+    requires misses { (m : ℕ) → m < n → cell counts.now m 4 + cell counts.now m 5 < 2 ^ 64 }
+    ensures takes { Takes text.old text.new (lines_of (cell counts.now) n) }
+    ensures short { text.new.length ≤ text.old.length + n * 256 }
 {
-    let mut at = from;
-    let mut m = 0;
-    while m < n {
-        at = put_line(text, at, counts, m);
-        m += 1;
+    for m in 0..n {
+        let at = COLUMNS * m;
+        put_line(text, m, &counts[at..at + COLUMNS]);
     }
-    at
 }
 
-// The largest size that a trace names, 0 where its header is refused.
+// The largest size that a trace names, and so how many lines a sheet has: 0 where its header is refused, as the definition says.
 fn size_in(trace: &[u8]) -> usize
     ensures { result ≡ size_in (header_at size.largest trace.now 0) }
 {
-    match read_header(trace, LARGEST_SIZE as u64) {
-        Header::Accepted {
-            edition: _,
-            size,
-            length: _,
-        } => size as usize,
-        Header::Refused(_, _) => 0,
-    }
+    read_header(trace, LARGEST_SIZE as u64).map_or(0, |header| header.size as usize)
 }
 
+// The areas are plain slices here, in `run` and in `desk_sheet`, as the calls for C lend them.
+//
 // Runs a trace and puts its sheet into the text, as far as that fits; answers how many bytes the whole sheet has.
 pub fn sheet(
     trace: &[u8],
@@ -93,11 +82,13 @@ pub fn sheet(
     ensures areas { AreasAre (run_in trace.now blocks.old stretches.old counts.old).areas
         blocks.new stretches.new counts.new }
 {
+    let mut text = Text::new(text);
     match run(trace, blocks, stretches, counts) {
-        Ran::Done(report) => {
-            let at = put_heading(text, report);
-            put_lines(text, at, counts, size_in(trace))
+        Ok(report) => {
+            put_heading(&mut text, report);
+            put_lines(&mut text, counts, size_in(trace));
         }
-        Ran::Refused(why, place) => put_refused(text, refusal_number(why), place),
+        Err(fault) => text.put_refused(fault),
     }
+    text.length()
 }

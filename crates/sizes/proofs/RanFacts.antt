@@ -5,6 +5,8 @@ use mathlib.Core.Bool.{Bool, true, false, cond}
 use Prim.Native.Nat.{ℕ, suc, ◌+◌, ◌-◌, ◌*◌, ◌/◌, ◌≤◌, ◌<◌}
 use native.Mathlib.Omega.{arith}
 use lib.ListN.{length, get_or, drop, get_or-append}
+use Rattle.std.specs.Prelude.{Result}
+use Rattle.terms.specs.declared.Fault.{Fault}
 use Rattle.terms.specs.declared.Refusal.TheVariants.{Room}
 use Rattle.terms.specs.Refusals.{number_of}
 use Rattle.terms.specs.Ranges.{size}
@@ -25,7 +27,6 @@ use Rattle.pass.specs.Outcome as outcome
 use Rattle.pass.specs.Frame.{Open, Shut}
 use Rattle.pass.specs.Answers.{ran_answer}
 use Rattle.pass.specs.declared.answers.Report.{Report}
-use Rattle.pass.specs.declared.answers.Ran.{Ran}
 use Rattle.pass.proofs.Frames as frames
 use Rattle.pass.proofs.OneAnswer.{one_ran}
 use Rattle.sizes.specs.Outcome.{Areas, Outcome, is_room, room_gate, report_of, emptied, frame_of, run_of}
@@ -151,7 +152,7 @@ module _ (bytes : List ℕ) (areas : Areas) (report : Report) (a : Accepted byte
 -- ---- one outcome
 
 -- what the contract says of an answer and the areas after it
-abbrev pub Meets : Outcome → Ran → (blocks stretches counts : List ℕ) → Type 0
+abbrev pub Meets : Outcome → Result Report Fault → (blocks stretches counts : List ℕ) → Type 0
 Meets o r blocks stretches counts = (ran_answer r ≡ o.answer) × AreasAre o.areas blocks stretches counts
 
 pub areas_determined : (areas : Areas) (b s c b' s' c' : List ℕ) → AreasAre areas b s c → AreasAre areas b' s' c' → (b ≡ b') × (s ≡ s') × (c ≡ c')
@@ -161,7 +162,7 @@ areas_determined areas b s c b' s' c' e f = (one_value e.0 f.0, one_value e.1 f.
 areas_of_lem : (areas : Areas) (b s c : List ℕ) → AreasAre areas b s c → areas_of b s c ≡ areas
 areas_of_lem areas b s c e = rw (e.0, e.1, e.2)
 
-pub run_determined : (bytes : List ℕ) (areas : Areas) (x y : Ran) (b s c b' s' c' : List ℕ)
+pub run_determined : (bytes : List ℕ) (areas : Areas) (x y : Result Report Fault) (b s c b' s' c' : List ℕ)
     → Meets (run_of bytes areas) x b s c → Meets (run_of bytes areas) y b' s' c' → (x ≡ y) × ((b ≡ b') × (s ≡ s') × (c ≡ c'))
 run_determined bytes areas x y b s c b' s' c' e f =
     let o = run_of bytes areas in

@@ -8,7 +8,6 @@ use lib.ListN.{length}
 use borrow.Author.Tests.{le-leb}
 use Rattle.terms.specs.Ranges.{size}
 use Rattle.terms.specs.Reads.{Read}
-use Rattle.trace.specs.declared.header.Header.TheVariants as the_header
 use Rattle.trace.specs.Reading.{Reading, Given, Refused, Header, header_at, and_then}
 use Rattle.trace.specs.Trace.{reads_from, Trace, trace_of}
 use Rattle.trace.proofs.Faults.{OfTrace, trace_refused}
@@ -43,7 +42,7 @@ answer_to (Refused number place) = outcome.Refused number place
 module _ (bytes : List ℕ) (areas : Areas) (room : is_room size.largest areas ≡ true) where
   header_room : (h : Header) (at : ℕ) → header_at size.largest bytes 0 ≡ Given h at → is_room h.size areas ≡ true
   header_room h at e =
-      room_less areas h.size size.largest (header_in bytes (the_header.Accepted h.edition h.size at) (sym e) h.edition h.size at refl).1 room
+      room_less areas h.size size.largest (header_in bytes h at (sym e)).1 room
 
   by_records : (h : Header) (x : Reading (List Read)) → answered (report_of h.size) x ≡ answer_to (and_then x (λ rs at₁. Given (record { header = h; reads = rs }) at₁))
   by_records h (Given rs at) = refl

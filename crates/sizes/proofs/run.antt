@@ -1,4 +1,3 @@
-pub mod Room
 pub mod WaysOut
 pub mod Totals
 pub mod Turns

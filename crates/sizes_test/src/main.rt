@@ -4,204 +4,108 @@
 // each as two bytes, lower first, and the byte that fills the areas before the run.
 #![tactic(auto)]
 
-ghost use Rattle.std.specs.Prelude.{◌<◌, ◌≤◌, length, IfOk};
+ghost use Rattle.std.specs.Prelude.{◌<◌, length, IfSome};
 
-use pass::answers::Ran;
+use pass::answers::Report;
+use sizes::run::run;
 use std::io;
 use std::io::Read;
+use terms::Fault;
 
 // No more of the input is read.
 const LARGEST_INPUT: u64 = 65536;
 
-fn say(rt: &impl Print, text: &[u8]) -> io::Result<()> {
-    rt.write_all(text)
-}
+// The lengths of the areas of which a case is lent a part.
+const BLOCKS: usize = 130;
 
-fn say_number(rt: &impl Print, n: u64) -> io::Result<()> {
-    print!(rt; " {n}")
-}
+const STRETCHES: usize = 16300;
 
-fn two_bytes(low: u8, high: u8) -> usize
-    ensures { result < 65536 }
-{
-    low as usize + 256 * (high as usize)
-}
+const COUNTS: usize = 770;
 
-fn least(a: usize, b: usize) -> usize
-    ensures { (result ≤ a) × (result ≤ b) }
-{
-    if a < b {
-        return a;
-    }
-    b
-}
-
-fn fill_numbers(area: &mut [u64], value: u64) {
-    let mut i = 0;
-    while i < area.len() {
-        area[i] = value;
-        i += 1;
-    }
-}
-
-fn fill_pairs(area: &mut [u16], value: u16) {
-    let mut i = 0;
-    while i < area.len() {
-        area[i] = value;
-        i += 1;
-    }
-}
-
-fn say_numbers(rt: &impl Print, area: &[u64]) -> io::Result<()> {
-    for n in area {
-        say_number(rt, *n)?;
-    }
-    Ok(())
-}
-
-// How many numbers at the front are another than the value that filled the area.
-fn changed_numbers(area: &[u64], value: u64) -> usize {
-    let mut changed = 0;
-    let mut i = 0;
-    while i < area.len() {
-        i += 1;
-        if area[i - 1] != value {
-            changed = i;
-        }
-    }
-    changed
-}
-
-// The numbers up to the last one that is another than the value that filled the area.
-fn say_written(rt: &impl Print, area: &[u64], value: u64) -> io::Result<()> {
-    let changed = changed_numbers(area, value);
-    if changed <= area.len() {
-        say_numbers(rt, &area[..changed])?;
-    }
-    Ok(())
-}
-
-fn say_answer(rt: &impl Print, answer: Ran) -> io::Result<()> {
-    match answer {
-        Ran::Done(report) => {
-            say(rt, b"done")?;
-            say_number(rt, report.reads)?;
-            say_number(rt, report.total)?;
-            say_number(rt, report.one)?;
-        }
-        Ran::Refused(refusal, place) => {
-            say(rt, b"refused")?;
-            say_number(rt, terms::refusal_number(refusal) as u64)?;
-            say_number(rt, place as u64)?;
-        }
-    }
-    Ok(())
-}
-
-fn changed_pairs(area: &[u16], value: u16) -> usize {
-    let mut changed = 0;
-    let mut i = 0;
-    while i < area.len() {
-        i += 1;
-        if area[i - 1] != value {
-            changed = i;
-        }
-    }
-    changed
-}
-
-// How far an area was changed, and how far what was changed is not zero.
-fn say_changed_numbers(rt: &impl Print, area: &[u64], value: u64) -> io::Result<()> {
-    let changed = changed_numbers(area, value);
-    say_number(rt, changed as u64)?;
-    if changed <= area.len() {
-        say_number(rt, changed_numbers(&area[..changed], 0) as u64)?;
-    }
-    Ok(())
-}
-
-fn say_changed_pairs(rt: &impl Print, area: &[u16], value: u16) -> io::Result<()> {
-    let changed = changed_pairs(area, value);
-    say_number(rt, changed as u64)?;
-    if changed <= area.len() {
-        say_number(rt, changed_pairs(&area[..changed], 0) as u64)?;
-    }
-    Ok(())
-}
-
-// The lengths of the parts of the three areas that are lent.
 #[derive(Clone, Copy)]
-struct Lengths {
+struct Case<'a> {
+    trace: &'a [u8],
     blocks: usize,
     stretches: usize,
     counts: usize,
+    filled: u8,
 }
 
-// The run with the lent parts of the areas.
-fn run_on(
-    trace: &[u8],
-    blocks: &mut [u64],
-    stretches: &mut [u16],
-    counts: &mut [u64],
-    lent: Lengths,
-) -> Ran {
-    let b = least(lent.blocks, blocks.len());
-    let s = least(lent.stretches, stretches.len());
-    let c = least(lent.counts, counts.len());
-    sizes::run::run(
-        trace,
-        &mut blocks[..b],
-        &mut stretches[..s],
-        &mut counts[..c],
-    )
-}
-
-fn run_case(rt: &impl Print, trace: &[u8], lent: Lengths, value: u8) -> io::Result<()> {
-    let mut blocks = [0u64; 130];
-    let mut stretches = [0u16; 16300];
-    let mut counts = [0u64; 770];
-    fill_numbers(&mut blocks, value as u64);
-    fill_pairs(&mut stretches, value as u16);
-    fill_numbers(&mut counts, value as u64);
-    say_answer(
-        rt,
-        run_on(trace, &mut blocks, &mut stretches, &mut counts, lent),
-    )?;
-    say_changed_numbers(rt, &blocks, value as u64)?;
-    say_changed_pairs(rt, &stretches, value as u16)?;
-    say(rt, b" counts")?;
-    say_written(rt, &counts, value as u64)?;
-    say(rt, b"\n")
-}
-
-// The case at the front of the bytes; answers how many bytes it takes, 0 where there is none.
-fn next_case(rt: &impl Print, bytes: &[u8]) -> io::Result<usize>
-    ensures { IfOk result (λ taken. taken ≤ length bytes.now) }
+// The case at the front of the bytes and the bytes after it; none where the bytes do not hold all of it. `salvage_test` cuts its cases likewise: a crate between the
+// two would be longer than what it saves.
+fn first_case(bytes: &[u8]) -> Option<(Case<'_>, &[u8])>
+    ensures { IfSome result (λ case. length case.1.now < length bytes.now) }
 {
-    if bytes.len() < 9 {
-        return Ok(0);
-    }
-    let end = 9 + two_bytes(bytes[0], bytes[1]);
-    if bytes.len() < end {
-        return Ok(0);
-    }
-    let lent = Lengths {
-        blocks: two_bytes(bytes[2], bytes[3]),
-        stretches: two_bytes(bytes[4], bytes[5]),
-        counts: two_bytes(bytes[6], bytes[7]),
+    let (head, rest) = bytes.split_first_chunk::<9>()?;
+    let number = |at: usize| usize::from(u16::from_le_bytes([head[at], head[at + 1]]));
+    let (trace, rest) = rest.split_at_checked(number(0))?;
+    let case = Case {
+        trace,
+        blocks: number(2),
+        stretches: number(4),
+        counts: number(6),
+        filled: head[8],
     };
-    run_case(rt, &bytes[9..end], lent, bytes[8])?;
-    Ok(end)
+    Some((case, rest))
 }
 
-fn cases(rt: &impl Print, bytes: &[u8]) -> io::Result<()> {
-    let mut at = 0;
-    while at < bytes.len() {
-        let taken = next_case(rt, &bytes[at..])?;
-        if taken == 0 {
-            return Ok(());
-        }
-        at += taken;
+fn print_answer(rt: &impl Print, answer: Result<Report, Fault>) -> io::Result<()> {
+    match answer {
+        Ok(report) => print!(rt; "done {} {} {}", report.reads, report.total, report.one),
+        Err(fault) => print!(rt; "refused {} {}", u32::from(fault.refusal), fault.place),
+    }
+}
+
+// The numbers up to the last one that is another than a value.
+fn changed<T: PartialEq + Copy>(area: &[T], value: T) -> &[T] {
+    let end = area
+        .iter()
+        .rposition(|number| *number != value)
+        .map_or(0, |last| last + 1);
+    &area[..end]
+}
+
+// How far an area was changed, and how far what was changed is not zero.
+fn print_changed<T: PartialEq + Copy + From<u8>>(
+    rt: &impl Print,
+    area: &[T],
+    filled: u8,
+) -> io::Result<()> {
+    let written = changed(area, T::from(filled));
+    print!(rt; " {} {}", written.len(), changed(written, T::from(0)).len())
+}
+
+// The part of an area that is lent, no longer than the area.
+fn front<T>(area: &mut [T], length: usize) -> &mut [T] {
+    let length = length.min(area.len());
+    &mut area[..length]
+}
+
+fn run_case(rt: &impl Print, case: Case<'_>) -> io::Result<()> {
+    let mut blocks = [u64::from(case.filled); BLOCKS];
+    let mut stretches = [u16::from(case.filled); STRETCHES];
+    let mut counts = [u64::from(case.filled); COUNTS];
+    let answer = run(
+        case.trace,
+        front(&mut blocks, case.blocks),
+        front(&mut stretches, case.stretches),
+        front(&mut counts, case.counts),
+    );
+    print_answer(rt, answer)?;
+    print_changed(rt, &blocks, case.filled)?;
+    print_changed(rt, &stretches, case.filled)?;
+    print!(rt; " counts")?;
+    for count in changed(&counts, u64::from(case.filled)) {
+        print!(rt; " {count}")?;
+    }
+    println!(rt)
+}
+
+fn run_all(rt: &impl Print, bytes: &[u8]) -> io::Result<()> {
+    let mut left = bytes;
+    while let Some((case, rest)) = first_case(left) {
+        run_case(rt, case)?;
+        left = rest;
     }
     Ok(())
 }
@@ -209,5 +113,5 @@ fn cases(rt: &impl Print, bytes: &[u8]) -> io::Result<()> {
 fn main(rt: HostRuntime) -> io::Result<()> {
     let mut bytes = Vec::new(rt.alloc());
     rt.reader().take(LARGEST_INPUT).read_to_end(&mut bytes)?;
-    cases(&rt, bytes.as_slice())
+    run_all(&rt, bytes.as_slice())
 }

@@ -1,5 +1,5 @@
 -- What the calls from other languages tell: the refusal's number, 0 where there is none, and the values that go into the caller's numbers.
-use Rattle.std.specs.Prelude.{ℕ, ◌≡◌, cond, List, [], ◌∷◌, ◌++◌, leb, length, take, drop}
+use Rattle.std.specs.Prelude.{ℕ, Option, None, Some, Result, Ok, Err, ◌≡◌, cond, List, [], ◌∷◌, ◌++◌, leb, length, take, drop}
 use Rattle.terms.specs.declared.Refusal.TheVariants.{Room}
 use Rattle.terms.specs.Refusals.{number_of}
 use Rattle.terms.specs.Ranges.{size}
@@ -12,6 +12,7 @@ use Rattle.pass.specs.Outcome as outcome
 use Rattle.pass.specs.declared.answers.Report.{Report}
 use Rattle.sheet_text.specs.Sheet.{shown}
 use Rattle.salvage.specs.Answers as salvage
+use Rattle.supharoek.specs.declared.told.Refused.{Refused}
 
 pub record Told : Type 0 where
   pub number : ℕ
@@ -20,9 +21,19 @@ pub record Told : Type 0 where
 abbrev pub tells : (number : ℕ) (values : List ℕ) → Told
 tells number values = record { number = number; values = values }
 
+-- a place, where there is one
+abbrev pub place_told : Option ℕ → List ℕ
+place_told (Some place) = place ∷ []
+place_told None = []
+
 -- a call tells it: the number is its answer, and the values stand at the front of the caller's numbers, as far as they fit
 abbrev pub Tells : Told → (answer : ℕ) (before after : List ℕ) → Type 0
 Tells t answer before after = (answer ≡ t.number) × (after ≡ shown t.values before)
+
+-- what the code found: values, or a refusal with its place, if it has one
+abbrev pub told_of : Result (List ℕ) Refused → Told
+told_of (Ok values) = tells 0 values
+told_of (Err refused) = tells (number_of refused.refusal) (place_told refused.place)
 
 -- a header: its edition, its size and its length; or the place of the refusal
 abbrev pub header_told : reading.Reading reading.Header → Told

@@ -4,7 +4,8 @@ use mathlib.Core.Path.{◌≡◌, sym, ◌∙◌}
 use mathlib.Core.Bool.{Bool}
 use Rattle.terms.specs.declared.Refusal.{Refusal}
 use Rattle.terms.specs.Refusals.{number_of}
-use Rattle.terms.specs.Ranges.{Range, in_range}
+use Rattle.terms.specs.declared.range.Range.{Range}
+use Rattle.terms.specs.Ranges.{in_range}
 
 -- an equation leaves one value
 pub one_value : {A : Type 0} {x y z : A} → x ≡ z → y ≡ z → x ≡ y

@@ -1,17 +1,16 @@
 -- The ranges of the numbers of a trace. Each bound stands here and nowhere else.
 use Rattle.std.specs.Prelude.{ℕ, Bool, ◌&&◌, leb}
 use Rattle.terms.specs.declared.Refusal.{Refusal}
+use Rattle.terms.specs.declared.range.Range.{Range}
 use Rattle.terms.specs.declared.Refusal.TheVariants.{Form, Edition, Size, Volume, Priority}
-
--- the least and the largest value of a number, and the refusal of any other
-pub record Range : Type 0 where
-  pub least : ℕ
-  pub largest : ℕ
-  pub refusal : Refusal
 
 -- from the least to the largest, both included
 abbrev pub in_range : Range → ℕ → Bool
 in_range range value = leb range.least value && leb value range.largest
+
+-- the range up to another largest value
+abbrev pub up_to : Range → ℕ → Range
+up_to range most = record { least = range.least; largest = most; refusal = range.refusal }
 
 -- the edition of a trace
 unfoldable pub edition : Range

@@ -1,12 +1,14 @@
 -- What is read ends within the bytes, and a refusal's place lies there.
+use mathlib.Core.Path.{◌≡◌, subst}
 use mathlib.Core.List.{List}
 use mathlib.Core.Bool.{Bool, true, false, cond}
 use Prim.Native.Nat.{ℕ, ◌+◌, ◌≤◌, ◌<◌}
 use native.Mathlib.Omega.{arith}
 use lib.ListN.{length}
-use Rattle.terms.specs.Ranges.{Range, in_range, edition, size_up_to, volume, block, priority}
+use Rattle.terms.specs.declared.range.Range.{Range}
+use Rattle.terms.specs.Ranges.{in_range, edition, size_up_to, volume, block, priority}
 use Rattle.trace.specs.Number.{Numeral, Value, Fault, number_at}
-use Rattle.trace.specs.Reading.{Reading, Given, Refused, tested, and_then, field, header_at, placed_in, placed_at, formed_at, record_at}
+use Rattle.trace.specs.Reading.{Reading, Given, Refused, tested, and_then, field, header_at, Placed, placed_in, placed_at, formed_at, record_at}
 use Rattle.trace.proofs.number.Laws.{OfValue}
 use Rattle.trace.proofs.Fields.{NumberIn, number_in}
 
@@ -56,3 +58,8 @@ record_within s at h = within_then at (length s) (placed_at s at) _ (placed_with
 pub formed_within : (s : List ℕ) (at : ℕ) → at ≤ length s → Within at (length s) (formed_at s at)
 unfolding formed_at
 formed_within s at h = placed_within _ _ s at h
+
+-- a record that was read from the start ends within the bytes
+pub placed_end : (s : List ℕ) (r : Placed) (end : ℕ) → placed_at s 0 ≡ Given r end → end ≤ length s
+unfolding placed_at
+placed_end s r end e = (subst (Within 0 (length s)) e (placed_within volume priority s 0 (omega arith))).1

@@ -7,7 +7,8 @@ use native.Mathlib.Omega.{arith}
 use lib.ListN.{length, drop}
 use lib.Dec.{T as Holds, leb, ltb}
 use Rattle.terms.specs.Refusals.{number_of}
-use Rattle.terms.specs.Ranges.{Range, in_range, edition, size_up_to, volume_up_to, volume, block, priority_up_to, priority}
+use Rattle.terms.specs.declared.range.Range.{Range}
+use Rattle.terms.specs.Ranges.{in_range, edition, size_up_to, volume_up_to, volume, block, priority_up_to, priority}
 use Rattle.trace.specs.Number.{Numeral, Value, Fault, after, numeral, bytes_before, top_byte, number_at}
 use Rattle.trace.specs.Reading.{Found, Reading, Given, Refused, and_then, tested, field, header_at, placed_in, placed_at, formed_at, record_at}
 use Rattle.trace.specs.Events.{events_from}

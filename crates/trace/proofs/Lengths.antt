@@ -7,7 +7,8 @@ use native.Mathlib.Omega.{arith}
 use lib.ListN.{length, length-append}
 use lib.Dec.{ltb}
 use borrow.Author.Tests.{ltb-false, le-ltb}
-use Rattle.terms.specs.Ranges.{Range, in_range, edition, size_up_to, size, volume, block, priority, volume_up_to, priority_up_to}
+use Rattle.terms.specs.declared.range.Range.{Range}
+use Rattle.terms.specs.Ranges.{in_range, edition, size_up_to, size, volume, block, priority, volume_up_to, priority_up_to}
 use Rattle.terms.specs.Reads.{Read, read_of, ReadOk}
 use Rattle.trace.specs.Number.{Value, number_at, bytes_before}
 use Rattle.trace.specs.Reading.{Given, Header, header_of, header_at, Placed, placed_in, placed_at, formed_at, record_at}

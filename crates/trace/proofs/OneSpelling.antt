@@ -10,7 +10,8 @@ use lib.ListN.{length, take, drop, take-append-drop}
 use lib.Seq.{get_or-drop, drop-drop}
 use lib.Dec.{ltb, leb}
 use borrow.Author.Tests.{le-ltb, ltb-true, ltb-false}
-use Rattle.terms.specs.Ranges.{Range, in_range, edition, size_up_to, volume, block, priority}
+use Rattle.terms.specs.declared.range.Range.{Range}
+use Rattle.terms.specs.Ranges.{in_range, edition, size_up_to, volume, block, priority}
 use Rattle.trace.specs.Number.{Numeral, Value, Fault, after, numeral, number_at, top_byte, bytes_before}
 use Rattle.terms.specs.Reads.{Read, ReadOk}
 use Rattle.trace.specs.Reading.{Found, Reading, Given, Refused, and_then, tested, field, Header, header_at, Placed, placed_in, placed_at, record_at}

@@ -8,15 +8,12 @@ use native.Mathlib.Omega.{arith}
 use lib.ListN.{length, take, drop}
 use lib.Seq.{drop-drop}
 use borrow.Author.Rules.{part_to_end}
-use Rattle.terms.specs.declared.Refusal.{Refusal}
 use Rattle.terms.specs.Refusals.{number_of}
-use Rattle.terms.specs.Ranges.{Range, in_range, volume, block, priority}
-use Rattle.terms.specs.Reads.{Read, read_of, ReadOk}
-use Rattle.trace.specs.declared.record.Record.{Record}
-use Rattle.trace.specs.declared.record.Record.TheVariants as the_record
+use Rattle.terms.specs.declared.range.Range.{Range}
+use Rattle.terms.specs.Ranges.{in_range, volume, block, priority}
+use Rattle.terms.specs.Reads.{Read, ReadOk}
 use Rattle.trace.specs.Number.{Numeral, Value, Fault, numeral, number_at, top_byte, bytes_before}
 use Rattle.trace.specs.Reading.{Reading, Given, Refused, tested, field, Placed, placed_of, placed_in, placed_at, formed_at, record_at}
-use Rattle.trace.specs.Answers.{record_answer}
 use Rattle.trace.proofs.Ends.{Within, record_within}
 use Rattle.trace.proofs.OneSpelling.{Gives}
 use Rattle.trace.proofs.Lengths.{record_given, record_length}
@@ -44,7 +41,7 @@ module _ {A : Type 0} (shift : A → A) where
       go (Fault number) = refl
 
 -- the priority's place counts from the start of the part too
-abbrev shifted : ℕ → Placed → Placed
+abbrev pub shifted : ℕ → Placed → Placed
 shifted at x = placed_of x.read (at + x.priority_at)
 
 onward_placed : (volumes priorities : Range) (s : List ℕ) (at : ℕ)
@@ -56,37 +53,30 @@ onward_placed volumes priorities s at =
     (λ b j. onward_field (shifted at) priorities s at j _ _ (λ p k. refl)))
     ∙ ap (placed_in volumes priorities s) (add-zero at)
 
--- in any ranges
-module _ (volumes priorities : Range) (s : List ℕ) (at : ℕ) (a b : Record) (e : record_answer a ≡ placed_in volumes priorities (take (length s - at) (drop at s)) 0) where
-  of_part : a ≡ b → placed_in volumes priorities s at ≡ onward (shifted at) at (record_answer b)
-  of_part g =
+module _ (s : List ℕ) (at : ℕ) where
+  -- in any ranges
+  of_part : (volumes priorities : Range) (r : Reading Placed) → r ≡ placed_in volumes priorities (take (length s - at) (drop at s)) 0
+      → placed_in volumes priorities s at ≡ onward (shifted at) at r
+  of_part volumes priorities r e =
       sym (ap (onward (shifted at) at) (e ∙ ap (λ (l : List ℕ). placed_in volumes priorities l 0) (part_to_end s at)) ∙ onward_placed volumes priorities s at)
-      ∙ ap (λ (x : Record). onward (shifted at) at (record_answer x)) g
 
--- wide open
-module _ (s : List ℕ) (at : ℕ) (a : Record) (e : record_answer a ≡ formed_at (take (length s - at) (drop at s)) 0) where
-  pub formed_read : (v b p q n : ℕ) → a ≡ the_record.Read v b p q n → formed_at s at ≡ Given (placed_of (read_of v b p) (at + q)) (at + n)
+  -- wide open
+  pub formed_read : (r : Placed) (n : ℕ) → Given r n ≡ formed_at (take (length s - at) (drop at s)) 0 → formed_at s at ≡ Given (shifted at r) (at + n)
   unfolding formed_at
-  formed_read v b p q n g = of_part _ _ s at a (the_record.Read v b p q n) e g
+  formed_read r n e = of_part _ _ (Given r n) e
 
-  pub formed_refused : (refusal : Refusal) (place : ℕ) → a ≡ the_record.Refused refusal place → formed_at s at ≡ Refused (number_of refusal) (at + place)
+  pub formed_refused : (number place : ℕ) → Refused number place ≡ formed_at (take (length s - at) (drop at s)) 0 → formed_at s at ≡ Refused number (at + place)
   unfolding formed_at
-  formed_refused refusal place g = of_part _ _ s at a (the_record.Refused refusal place) e g
+  formed_refused number place e = of_part _ _ (Refused number place) e
 
--- those of the format
-module _ (s : List ℕ) (at : ℕ) (a : Record) (e : record_answer a ≡ placed_at (take (length s - at) (drop at s)) 0) where
-  module _ (v b p q n : ℕ) (g : a ≡ the_record.Read v b p q n) where
-    pub placed_read : placed_at s at ≡ Given (placed_of (read_of v b p) (at + q)) (at + n)
-    unfolding placed_at
-    placed_read = of_part _ _ s at a (the_record.Read v b p q n) e g
-
-    pub record_read : record_at s at ≡ Given (read_of v b p) (at + n)
-    unfolding record_at
-    record_read = rw placed_read
-
-  pub record_refused : (refusal : Refusal) (place : ℕ) → a ≡ the_record.Refused refusal place → record_at s at ≡ Refused (number_of refusal) (at + place)
+  -- those of the format
+  pub record_read : (r : Placed) (n : ℕ) → Given r n ≡ placed_at (take (length s - at) (drop at s)) 0 → record_at s at ≡ Given r.read (at + n)
   unfolding record_at placed_at
-  record_refused refusal place g = rw (of_part volume priority s at a (the_record.Refused refusal place) e g)
+  record_read r n e = rw (of_part volume priority (Given r n) e)
+
+  pub record_refused : (number place : ℕ) → Refused number place ≡ placed_at (take (length s - at) (drop at s)) 0 → record_at s at ≡ Refused number (at + place)
+  unfolding record_at placed_at
+  record_refused number place e = rw (of_part volume priority (Refused number place) e)
 
 -- ---- what holds of a record
 
@@ -99,9 +89,9 @@ refused_in : (s : List ℕ) (at number place : ℕ) → at ≤ length s → reco
 refused_in s at number place h e = (subst (Within at (length s)) e (record_within s at h)).1
 
 -- where it ends, and where its fault is
-module _ (s : List ℕ) (at : ℕ) (a : Record) (e : record_answer a ≡ placed_at (take (length s - at) (drop at s)) 0) (h : at ≤ length s) where
-  pub read_in : (v b p q n : ℕ) → a ≡ the_record.Read v b p q n → (3 ≤ n) × (at + n ≤ length s)
-  read_in v b p q n g = let good = given_good s at (read_of v b p) (at + n) h (record_read s at a e v b p q n g) in (omega arith, omega arith)
+module _ (s : List ℕ) (at : ℕ) (h : at ≤ length s) where
+  pub read_in : (r : Placed) (n : ℕ) → Given r n ≡ placed_at (take (length s - at) (drop at s)) 0 → (3 ≤ n) × (at + n ≤ length s)
+  read_in r n e = let good = given_good s at r.read (at + n) h (record_read s at r n e) in (omega arith, omega arith)
 
-  pub place_in : (refusal : Refusal) (place : ℕ) → a ≡ the_record.Refused refusal place → at + place ≤ length s
-  place_in refusal place g = refused_in s at (number_of refusal) (at + place) h (record_refused s at a e refusal place g)
+  pub place_in : (number place : ℕ) → Refused number place ≡ placed_at (take (length s - at) (drop at s)) 0 → at + place ≤ length s
+  place_in number place e = refused_in s at number (at + place) h (record_refused s at number place e)

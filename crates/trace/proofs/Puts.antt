@@ -1,14 +1,15 @@
 -- Laws of elements that take the place of others in a list.
-use mathlib.Core.Path.{◌≡◌, sym, ap, ap₂, ◌∙◌}
+use mathlib.Core.Path.{◌≡◌, refl, sym, ap, ap₂, ◌∙◌}
 use mathlib.Core.List.{List, [], ◌∷◌, ◌++◌, append-nil, append_assoc}
 use Prim.Native.Nat.{ℕ, suc, ◌+◌, ◌-◌, ◌≤◌, ◌<◌}
-use native.Mathlib.Nat.{add_assoc, add-zero, zero-add}
+use native.Mathlib.Nat.{add-zero, zero-add}
 use native.Mathlib.Numerals.{add-one}
 use native.Mathlib.Omega.{arith}
 use lib.ListN.{length, take, drop, set, length-drop, length-append, drop_of_length-le, take-append-drop}
-use lib.Seq.{drop-drop, length-take-le, take_at, drop_at, take-suc-set, drop-set-lt}
+use lib.Seq.{paste, drop-drop, length-take-le, take-suc-set, drop-set-lt}
 use borrow.Rule.Slice.PartMut.{put_mid}
 use borrow.Author.Rules.{part_to_end}
+use Rattle.std.proofs.lemmas.List.Edits.{paste_all, paste-paste}
 use Rattle.trace.specs.Writing.{put}
 
 module _ {A : Type 0} where
@@ -34,23 +35,10 @@ module _ {A : Type 0} where
   -- a second write where the first one ends
   pub put_put : (s : List A) (at : ℕ) (xs ys : List A) → at + length xs ≤ length s → put (put s at xs) (at + length xs) ys ≡ put s at (xs ++ ys)
   put_put s at xs ys h =
-      ap₂ (λ (k m : List A). k ++ (ys ++ m)) front back
-      ∙ simp (append_assoc, length-append, ← add_assoc)
-    where
-      long : length (take at s ++ xs) ≡ at + length xs
-      long = length-append (take at s) xs ∙ ap (λ (n : ℕ). n + length xs) (length-take-le at s (omega arith))
-
-      whole : put s at xs ≡ (take at s ++ xs) ++ drop (at + length xs) s
-      whole = sym (append_assoc (take at s) xs (drop (at + length xs) s))
-
-      front : take (at + length xs) (put s at xs) ≡ take at s ++ xs
-      front = ap (take (at + length xs)) whole ∙ take_at (take at s ++ xs) (drop (at + length xs) s) (at + length xs) long
-
-      back : drop (at + length xs + length ys) (put s at xs) ≡ drop (at + length xs + length ys) s
-      back =
-          sym (drop-drop (length ys) (at + length xs) (put s at xs))
-          ∙ ap (drop (length ys)) (ap (drop (at + length xs)) whole ∙ drop_at (take at s ++ xs) (drop (at + length xs) s) (at + length xs) long)
-          ∙ drop-drop (length ys) (at + length xs) s
+      ap (λ (l : List A). put l (at + length xs) ys) (sym (paste_all s at xs (length xs) refl))
+      ∙ sym (paste_all (paste s at xs (length xs)) (at + length xs) ys (length ys) refl)
+      ∙ paste-paste s at xs ys (length xs) (length ys) refl refl (omega arith)
+      ∙ rw (← length-append xs ys) (paste_all s at (xs ++ ys) (length (xs ++ ys)) refl)
 
   pub put_length : (s : List A) (at : ℕ) (xs : List A) → at + length xs ≤ length s → length (put s at xs) ≡ length s
   put_length s at xs h =

@@ -9,7 +9,8 @@ use lib.ListN.{length, take, drop}
 use lib.Seq.{drop-drop, drop-append_seam, drop_at, length-take-le}
 use lib.Dec.{ltb, leb}
 use borrow.Author.Tests.{le-ltb, le-leb, leb-true, ltb-false}
-use Rattle.terms.specs.Ranges.{Range, in_range, edition, size_up_to, size, volume, block, priority}
+use Rattle.terms.specs.declared.range.Range.{Range}
+use Rattle.terms.specs.Ranges.{in_range, edition, size_up_to, size, volume, block, priority}
 use Rattle.trace.specs.Number.{Value, numeral, number_at, top_byte, bytes_before}
 use Rattle.terms.specs.Reads.{Read, ReadOk}
 use Rattle.trace.specs.Reading.{Reading, Given, field, Header, header_at, placed_of, placed_in, placed_at, record_at}

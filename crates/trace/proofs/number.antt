@@ -1,3 +1,2 @@
 -- What serves the reader of numbers.
 pub mod Laws
-pub mod Cases

@@ -1,5 +1,5 @@
 -- Bounds that the crate's own functions ask of each other.
-use Rattle.std.specs.Prelude.{ℕ, zero, suc, ◌+◌, ◌*◌, ◌^◌, ◌<◌, List, [], ◌∷◌}
+use Rattle.std.specs.Prelude.{ℕ, zero, suc, ◌+◌, ◌*◌, ◌^◌, ◌<◌, List, All}
 use Rattle.trace.specs.Number.{Numeral, Value, Fault, top_byte, bytes_before}
 
 -- numbers with at most `left` bytes before the last are below this
@@ -13,8 +13,7 @@ number_limit = limit top_byte bytes_before
 
 -- each has a spelling
 abbrev pub Spelled : List ℕ → Type 0
-Spelled [] = Unit
-Spelled (v ∷ vs) = (v < number_limit) × Spelled vs
+Spelled vs = All (λ v. v < number_limit) vs
 
 -- one byte more fits 64 bits
 abbrev pub Small : Numeral → Type 0

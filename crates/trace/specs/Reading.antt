@@ -1,7 +1,8 @@
 -- What reading a header or a record finds: each number is read and tested before the next one is read.
 use Rattle.std.specs.Prelude.{ℕ, ◌+◌, cond, List}
 use Rattle.terms.specs.Refusals.{number_of}
-use Rattle.terms.specs.Ranges.{Range, in_range, edition, size_up_to, volume_up_to, volume, block, priority_up_to, priority}
+use Rattle.terms.specs.declared.range.Range.{Range}
+use Rattle.terms.specs.Ranges.{in_range, edition, size_up_to, volume_up_to, volume, block, priority_up_to, priority}
 use Rattle.terms.specs.Reads.{Read, read_of}
 use Rattle.trace.specs.Number.{Numeral, Value, Fault, number_at}
 

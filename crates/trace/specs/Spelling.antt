@@ -1,5 +1,5 @@
 -- The one spelling of a number, a header, a record and a trace.
-use Rattle.std.specs.Prelude.{ℕ, zero, suc, ◌+◌, ◌/◌, ◌%◌, ◌<◌, cond, List, [], ◌∷◌, ◌++◌, get_or, ltb}
+use Rattle.std.specs.Prelude.{ℕ, zero, suc, ◌+◌, ◌/◌, ◌%◌, ◌<◌, cond, List, [], ◌∷◌, ◌++◌, flat_map, get_or, ltb}
 use Rattle.trace.specs.Number.{bytes_before}
 use Rattle.terms.specs.Reads.{Read}
 use Rattle.trace.specs.Reading.{Header}
@@ -15,8 +15,7 @@ spelling v = spell bytes_before v
 
 -- numbers, one after the other
 abbrev pub spellings : List ℕ → List ℕ
-spellings [] = []
-spellings (v ∷ vs) = spelling v ++ spellings vs
+spellings vs = flat_map spelling vs
 
 -- the numbers of a header in their order
 abbrev pub header_values : Header → List ℕ
@@ -28,8 +27,7 @@ read_values r = r.volume ∷ r.block ∷ r.priority ∷ []
 
 -- the records of reads, one after the other
 abbrev pub records_spelling : List Read → List ℕ
-records_spelling [] = []
-records_spelling (r ∷ rs) = spellings (read_values r) ++ records_spelling rs
+records_spelling rs = flat_map (λ r. spellings (read_values r)) rs
 
 -- a header and then records
 abbrev pub trace_spelling : Header → List Read → List ℕ

@@ -2,7 +2,8 @@
 use Rattle.std.specs.Prelude.{ℕ, ◌+◌, cond, List, ◌++◌, length, take, drop, leb}
 use Rattle.terms.specs.declared.Refusal.TheVariants.{Space}
 use Rattle.terms.specs.Refusals.{number_of}
-use Rattle.terms.specs.Ranges.{Range, in_range, edition, size, volume, block, priority}
+use Rattle.terms.specs.declared.range.Range.{Range}
+use Rattle.terms.specs.Ranges.{in_range, edition, size, volume, block, priority}
 use Rattle.terms.specs.Reads.{Read}
 use Rattle.trace.specs.Reading.{Header}
 use Rattle.trace.specs.Spelling.{spellings, header_values, read_values}

@@ -1,93 +1,73 @@
 // A record: volume, block, priority.
 ghost use Rattle.std.specs.Prelude.{◌≡◌, length, drop};
-ghost use Rattle.terms.specs.Ranges.{volume_up_to, priority_up_to};
 ghost use Rattle.terms.specs.Reads.{read_of};
 ghost use Rattle.trace.specs.Reading.{placed_in, placed_at, formed_at, record_at, rest_start, onwards};
 ghost use Rattle.trace.specs.Spelling.{spellings, read_values};
 ghost use Rattle.trace.specs.Writing.{record_writing, buffer_after};
 ghost use Rattle.trace.specs.Answers.{record_answer, written_answer};
 
-use crate::Written;
-use crate::number::{Number, fault, read_number};
+use crate::field::read_field;
 use crate::spelling::write_numbers;
-use terms::{LARGEST_BLOCK, LARGEST_PRIORITY, LARGEST_VOLUME, Refusal};
+use terms::range::Range;
+use terms::{Fault, Refusal};
 
-#[derive(Clone, Copy)]
-pub enum Record {
-    Read {
-        volume: u64,
-        block: u64,
-        priority: u64,
-        // The offset of the priority.
-        priority_at: usize,
-        length: usize,
-    },
-    // Why, and the offset of the number at fault.
-    Refused(Refusal, usize),
+#[derive(Clone, Copy, Debug, PartialEq, Eq)]
+pub struct Record {
+    pub volume: u64,
+    pub block: u64,
+    pub priority: u64,
+    // The offset of the priority.
+    pub priority_at: usize,
+    pub length: usize,
 }
 
-// The record at the front of a part, its volume and its priority no larger than these.
-fn record_up_to(part: &[u8], volumes: u64, priorities: u64) -> Record
-    ensures { record_answer result ≡ placed_in (volume_up_to volumes) (priority_up_to priorities) part.now 0 }
+// The record at the front of a part, its volume and its priority in these ranges.
+#[tactic(auto, unfolding(crate::specs::Reading::placed_in))]
+fn record_in(part: &[u8], volumes: Range, priorities: Range) -> Result<Record, Fault>
+    ensures { record_answer result ≡ placed_in volumes priorities part.now 0 }
 {
-    let first = read_number(part, 0);
-    let Number::Value(volume, at_block) = first else {
-        return Record::Refused(fault(first), 0);
-    };
-    if !terms::is_volume_up_to(volume, volumes) {
-        return Record::Refused(Refusal::Volume, 0);
-    }
-    let second = read_number(part, at_block);
-    let Number::Value(block, block_length) = second else {
-        return Record::Refused(fault(second), at_block);
-    };
-    let at_priority = at_block + block_length;
-    let third = read_number(part, at_priority);
-    let Number::Value(priority, priority_length) = third else {
-        return Record::Refused(fault(third), at_priority);
-    };
-    if !terms::is_priority_up_to(priority, priorities) {
-        return Record::Refused(Refusal::Priority, at_priority);
-    }
-    Record::Read {
-        volume,
-        block,
-        priority,
-        priority_at: at_priority,
-        length: at_priority + priority_length,
-    }
+    let volume = read_field(part, 0, volumes)?;
+    let block = read_field(part, volume.end, Range::block())?;
+    let priority = read_field(part, block.end, priorities)?;
+    Ok(Record {
+        volume: volume.value,
+        block: block.value,
+        priority: priority.value,
+        priority_at: block.end,
+        length: priority.end,
+    })
 }
 
-pub fn read_record(part: &[u8]) -> Record
+#[tactic(auto, unfolding(crate::specs::Reading::placed_at))]
+pub fn read_record(part: &[u8]) -> Result<Record, Fault>
     ensures { record_answer result ≡ placed_at part.now 0 }
 {
-    record_up_to(part, LARGEST_VOLUME, LARGEST_PRIORITY)
+    record_in(part, Range::volume(), Range::priority())
 }
 
 // The same reading with the ranges wide open: it tells where a record of well-formed numbers ends.
-pub fn read_form(part: &[u8]) -> Record
+#[tactic(auto, unfolding(crate::specs::Reading::formed_at, terms::specs::Ranges::volume, terms::specs::Ranges::priority))]
+pub fn read_form(part: &[u8]) -> Result<Record, Fault>
     ensures { record_answer result ≡ formed_at part.now 0 }
 {
-    record_up_to(part, LARGEST_BLOCK, LARGEST_BLOCK)
+    let widest = Range::block().largest;
+    record_in(
+        part,
+        Range::volume().up_to(widest),
+        Range::priority().up_to(widest),
+    )
 }
 
 // The part after one record, or the whole part where that is refused.
+#[tactic(auto, using(crate::proofs::Ends::placed_end), unfolding(crate::specs::Reading::record_at))]
 pub fn rest(part: &[u8]) -> &[u8]
     ensures { (result.now ≡ drop (rest_start (record_at part.now 0)) part.now)
         × (result.ref_ptr ≡ onwards (rest_start (record_at part.now 0)) part.entry.ref_ptr) }
 {
-    let record = read_record(part);
-    let Record::Read {
-        volume: _,
-        block: _,
-        priority: _,
-        priority_at: _,
-        length,
-    } = record
-    else {
+    let Ok(record) = read_record(part) else {
         return part;
     };
-    &part[length..]
+    &part[record.length..]
 }
 
 // The numbers of a record in their order, each as it was given: a priority of 0 is written as 0.
@@ -97,17 +77,19 @@ fn values_of(volume: u64, block: u32, priority: u64) -> [u64; 3]
     [volume, block as u64, priority]
 }
 
-// Writes a record into a buffer from an offset on.
-pub fn write_record(buffer: &mut [u8], at: usize, volume: u64, block: u32, priority: u64) -> Written
+// Writes a record into a buffer from an offset on; answers its length.
+#[tactic(auto, unfolding(crate::specs::Writing::record_writing, terms::specs::Ranges::volume, terms::specs::Ranges::block, terms::specs::Ranges::priority, crate::specs::Bounds::number_limit))]
+pub fn write_record(
+    buffer: &mut [u8],
+    at: usize,
+    volume: u64,
+    block: u32,
+    priority: u64,
+) -> Result<usize, Refusal>
     ensures { (written_answer result ≡ record_writing (read_of volume block priority) (length buffer.old) at)
         × (buffer.new ≡ buffer_after (written_answer result) buffer.old at (spellings (read_values (read_of volume block priority)))) }
 {
-    if !terms::is_volume(volume) {
-        return Written::Refused(Refusal::Volume);
-    }
-    if !terms::is_priority(priority) {
-        return Written::Refused(Refusal::Priority);
-    }
-    let values = values_of(volume, block, priority);
-    write_numbers(buffer, at, &values)
+    Range::volume().check(volume)?;
+    Range::priority().check(priority)?;
+    write_numbers(buffer, at, &values_of(volume, block, priority))
 }

@@ -1,78 +1,67 @@
--- One turn of each loop that looks for a block, which is at none of the first places.
-use mathlib.Core.Path.{◌≡◌, refl, sym, ap, ◌∙◌}
-use mathlib.Core.Bool.{cond}
-use mathlib.Core.List.{List, [], ◌∷◌}
-use Prim.Native.Nat.{ℕ, zero, suc, ◌+◌, ◌-◌, ◌≤◌, ◌<◌}
-use native.Mathlib.Numerals.{add-one}
+-- The place of a block is one past the first index that holds its key, and fours that do not hold it may be passed over.
+use mathlib.Core.Path.{◌≡◌, refl, sym}
+use mathlib.Core.List.{List, [], ◌∷◌, ◌++◌}
+use mathlib.Core.Bool.{false, cond}
+use Prim.Native.Nat.{ℕ, zero, suc, ◌+◌, ◌*◌, ◌/◌, ◌≤◌, ◌<◌}
 use native.Mathlib.Omega.{arith}
-use lib.Dec.{eqb}
-use lib.ListN.{length, get_or, take}
-use lib.Seq.{take_all}
-use borrow.Author.Tests.{eq-eqb, ne_eqb}
-use Rattle.card.specs.Rule.{place, one_lower}
-use Rattle.card.proofs.Tests.{by_eq}
+use lib.Dec.{ltb, eqb}
+use lib.ListN.{length, take, drop, get_or}
+use denote.Ref.{Bor}
+use Rattle.std.specs.Prelude.{Option, None, Some, MatchOption, position, ◌==◌, IsTrue}
+use Rattle.std.specs.List.{position_or_len, list_any, IsSubsliceAt}
+use Rattle.std.specs.Option.{unwrap_or, option_map, IfSome, IsSomeAnd}
+use Rattle.std.specs.Slice.Iter.{chunks_exact_steps}
+use Rattle.std.specs.Iterator.Runs.{Run, IsChunksExactRun, AllItems, AllItemsBelow}
+use Rattle.std.proofs.Math.Seq.{take-add, length-take-le}
+use Rattle.std.proofs.lemmas.Bool.Decides.{nat_tests}
+use Rattle.std.proofs.lemmas.List.{take-append-drop}
+use Rattle.std.proofs.lemmas.List.Folds.{list_any-append}
+use Rattle.card.specs.Rule.{place}
 
-not_top : (y x j : ℕ) → cond (eqb y x) 1 (one_lower j) ≡ 0 → (y ≡ x → ⊥) × (j ≡ 0)
-not_top y x j e = by_eq y x (λ q. absurd (omega (arith, rw (eq-eqb y x q) at e))) (λ n. (n, none_lower j (rw (ne_eqb y x n) at e)))
-  where
-    none_lower : (j : ℕ) → one_lower j ≡ 0 → j ≡ 0
-    none_lower zero e = refl
-    none_lower (suc j) e = absurd (omega arith)
+place_first : (c : List ℕ) (x : ℕ) → place c x ≡ cond (ltb (position_or_len (λ y. y == x) c) (length c)) (position_or_len (λ y. y == x) c + 1) 0
+place_first [] x = refl
+place_first (y ∷ ys) x = let e = place_first ys x in grind (arith, nat_tests)
 
-place_turn : (s : List ℕ) (i x : ℕ) → i < length s → place (take i s) x ≡ 0
-    → (get_or s i 0 ≡ x → suc i ≡ place s x) × ((get_or s i 0 ≡ x → ⊥) → place (take (suc i) s) x ≡ 0)
-place_turn [] i x h e = absurd (omega arith)
-place_turn (y ∷ ys) zero x h e = ((λ q. rw (eq-eqb y x q)), (λ d. rw (ne_eqb y x d)))
-place_turn (y ∷ ys) (suc i) x h e =
-    let (n, f) = not_top y x (place (take i ys) x) e in
-    let (here, on) = place_turn ys i x (omega arith) f in
-    ((λ q. rw (ne_eqb y x n, ← here q)), (λ d. rw (ne_eqb y x n, on d)))
+past : (a b : List ℕ) (x : ℕ) → list_any (λ y. y == x) a ≡ false → place (a ++ b) x ≡ cond (eqb (place b x) 0) 0 (length a + place b x)
+past [] b x h = grind (arith, nat_tests)
+past (y ∷ ys) b x h = let e = past ys b x in grind (arith, nat_tests)
 
-module _ (s : List ℕ) (i x : ℕ) (none : place (take i s) x ≡ 0) where
-  -- k is the code's number for i + 1
-  module _ (k : ℕ) (e : i + 1 ≡ k) (h : i < length s) where
-    found_at : get_or s i 0 ≡ x → k ≡ place s x
-    found_at q = sym e ∙ add-one i ∙ (place_turn s i x h none).0 q
+-- the place of a block that is at none of the first n places, by the index of its key among those below
+pub place_is : (c : List ℕ) (x n j : ℕ) (found : Option ℕ) → n ≤ length c → list_any (λ y. y == x) (take n c) ≡ false
+    → found ≡ position (λ y. y == x) (drop n c) → MatchOption found (j ≡ 0) (λ i. j ≡ n + i + 1) → j ≡ place c x
+place_is c x n j found l h e m =
+    let p = past (take n c) (drop n c) x h in
+    let q = place_first (drop n c) x in
+    let a = take-append-drop n c in
+    let t = length-take-le n c l in grind (arith, nat_tests)
 
-    none_to : (get_or s i 0 ≡ x → ⊥) → place (take k s) x ≡ 0
-    none_to n = rw (← e, add-one) ((place_turn s i x h none).1 n)
+fours_lack : (c : List ℕ) (x n : ℕ) → ((k : ℕ) → k < n → list_any (λ y. y == x) (take 4 (drop (k * 4) c)) ≡ false) → list_any (λ y. y == x) (take (n * 4) c) ≡ false
+fours_lack c x zero h = refl
+fours_lack c x (suc n) h =
+    let e : suc n * 4 ≡ n * 4 + 4 = omega arith in
+    let f = fours_lack c x n (λ k l. h k (omega arith)) in
+    let g = h n (omega arith) in
+    let a = list_any-append (λ y. y == x) (take (n * 4) c) (take 4 (drop (n * 4) c)) in
+    rw (e, take-add (n * 4) 4 c, a, f, g)
 
-  pub place_here : i < length s → get_or s i 0 ≡ x → i + 1 ≡ place s x
-  place_here = found_at (i + 1) refl
+module _ {Passed : Bor (List ℕ) → Type 0} (c : List ℕ) (x : ℕ) (lacks : (four : Bor (List ℕ)) → Passed four → list_any (λ y. y == x) four.now ≡ false) where
+  one_lacks : (k : ℕ) (o : Option (Bor (List ℕ))) → IfSome o (λ four. (length four.now ≡ 4) × (k * 4 + 4 ≤ length c) × IsSubsliceAt 4 c (k * 4) four.now)
+      → IsSomeAnd o Passed → list_any (λ y. y == x) (take 4 (drop (k * 4) c)) ≡ false
+  one_lacks k None s h = absurd h
+  one_lacks k (Some four) s h = rw (sym s.2.0) (lacks four h)
 
-  pub place_on : i < length s → (get_or s i 0 ≡ x → ⊥) → place (take (i + 1) s) x ≡ 0
-  place_on = none_to (i + 1) refl
+  is_there : (o : Option (Bor (List ℕ))) (k : ℕ) (fours : List (Bor (List ℕ))) → ((d : Bor (List ℕ)) → option_map (λ y. y) o ≡ Some (get_or fours k d)) → k < length fours
+      → IfSome o Passed → IsSomeAnd o Passed
+  is_there o k [] e l h = absurd (omega arith)
+  is_there None k (d ∷ fours) e l h = let f = e d in grind arith
+  is_there (Some four) k (d ∷ fours) e l h = h
 
-  pub place_end : length s ≤ i → 0 ≡ place s x
-  place_end h = sym (ap (λ (l : List ℕ). place l x) (sym (take_all i s h)) ∙ none)
-
--- the four places of a turn
-module _ (s : List ℕ) (i x : ℕ) (none : place (take i s) x ≡ 0) (h : 4 ≤ length s - i) where
-  pub first_of_four : get_or s i 0 ≡ x → i + 1 ≡ place s x
-  first_of_four = place_here s i x none (omega arith)
-
-  module _ (n₁ : get_or s i 0 ≡ x → ⊥) where
-    none_of_one : place (take (i + 1) s) x ≡ 0
-    none_of_one = place_on s i x none (omega arith) n₁
-
-    pub second_of_four : get_or s (i + 1) 0 ≡ x → i + 2 ≡ place s x
-    second_of_four = found_at s (i + 1) x none_of_one (i + 2) (omega arith) (omega arith)
-
-    module _ (n₂ : get_or s (i + 1) 0 ≡ x → ⊥) where
-      none_of_two : place (take (i + 2) s) x ≡ 0
-      none_of_two = none_to s (i + 1) x none_of_one (i + 2) (omega arith) (omega arith) n₂
-
-      pub third_of_four : get_or s (i + 2) 0 ≡ x → i + 3 ≡ place s x
-      third_of_four = found_at s (i + 2) x none_of_two (i + 3) (omega arith) (omega arith)
-
-      module _ (n₃ : get_or s (i + 2) 0 ≡ x → ⊥) where
-        none_of_three : place (take (i + 3) s) x ≡ 0
-        none_of_three = none_to s (i + 2) x none_of_two (i + 3) (omega arith) (omega arith) n₃
-
-        pub fourth_of_four : get_or s (i + 3) 0 ≡ x → i + 4 ≡ place s x
-        fourth_of_four = found_at s (i + 3) x none_of_three (i + 4) (omega arith) (omega arith)
-
-        pub none_of_four : (get_or s (i + 3) 0 ≡ x → ⊥) → place (take (i + 4) s) x ≡ 0
-        none_of_four = none_to s (i + 3) x none_of_three (i + 4) (omega arith) (omega arith)
-
-pub ruleset fours = (first_of_four, second_of_four, third_of_four, fourth_of_four)
+  -- no place in the fours that a search passed holds the key
+  pub passed_lack : {Keeps : Type 0} (Hit : ℕ → Type 0) (p : Run (chunks_exact_steps {A = ℕ})) (found : Option ℕ) → IsChunksExactRun p 4 c
+      → MatchOption found (IsTrue p.whole × (Keeps → AllItems p Passed)) (λ i. (p.len ≡ i + 1) × (Keeps → Hit i × AllItemsBelow p i Passed)) → Keeps
+      → (unwrap_or found (length c / 4) * 4 ≤ length c) × (list_any (λ y. y == x) (take (unwrap_or found (length c / 4) * 4) c) ≡ false)
+  passed_lack Hit p None r m keeps =
+      let e = r.1 (search m) in
+      let n = p.long in
+      (omega arith, fours_lack c x (length c / 4) (λ k l. one_lacks k (p.at k) (r.2 k) (is_there (p.at k) k p.items (λ d. p.reads k d (omega arith)) (omega arith) (m.1 keeps k))))
+  passed_lack Hit p (Some i) r m keeps = (omega arith, fours_lack c x i (λ k l. one_lacks k (p.at k) (r.2 k) ((m.1 keeps).1 k l)))

@@ -1,15 +1,15 @@
 -- One more in a tally: what that does to the area, and to the sums.
-use mathlib.Core.Path.{◌≡◌, refl, ap, ◌∙◌}
+use mathlib.Core.Path.{◌≡◌, refl}
 use mathlib.Core.List.{List}
 use Prim.Native.Nat.{ℕ, zero, suc, ◌+◌, ◌-◌, ◌≤◌, ◌<◌}
 use native.Mathlib.Omega.{arith}
 use lib.Dec.{leb}
-use lib.ListN.{length, get_or, set, length-set}
+use lib.ListN.{length, get_or, length-set}
 use lib.Seq.{get_or-set_same, get_or-set_other}
 use Rattle.card.proofs.Tests.{by_lt, by_eq, tests, bit}
 use Rattle.counts.specs.Columns.{columns, counts_length, cell_of}
 use Rattle.counts.specs.Tallies.{up_to}
-use Rattle.counts.specs.TallySteps.{HasRoom, bumped, begun, GrownBy}
+use Rattle.counts.specs.TallySteps.{bumped, GrownBy}
 
 module _ (c : List ℕ) (n k s : ℕ) where
   pub length_bumped : length (bumped c n k s) ≡ length c
@@ -26,10 +26,6 @@ module _ (c : List ℕ) (n k s : ℕ) where
   unfolding bumped
   bumped_past h = simp tests
 
-  pub bumped_set : s ≤ n → set c (cell_of (s - 1) k) (get_or c (cell_of (s - 1) k) 0 + 1) ≡ bumped c n k s
-  unfolding bumped
-  bumped_set h = simp tests
-
   module _ (long : counts_length n ≤ length c) (some : 1 ≤ s) (column : k < columns) where
     bumped_same : s ≤ n → get_or (bumped c n k s) (cell_of (s - 1) k) 0 ≡ get_or c (cell_of (s - 1) k) 0 + 1
     unfolding bumped
@@ -42,10 +38,6 @@ module _ (c : List ℕ) (n k s : ℕ) where
         (λ h. rw bumped_past (omega arith))
         (λ h. rw e (omega (arith, bumped_same h))))
         (λ d. omega (arith, bumped_other x d))
-
-    -- what a bump ensures, from the list alone
-    pub grown : (d : List ℕ) → d ≡ bumped c n k s → (d ≡ bumped c n k s) × GrownBy 1 c d
-    grown d e = (e, λ x. rw e (bumped_small x))
 
     -- its sums count from the size on
     pub up_to_same : (m : ℕ) → m ≤ n → up_to (bumped c n k s) k m ≡ up_to c k m + bit (leb s m)
@@ -67,17 +59,3 @@ module _ (c : List ℕ) (n k s : ℕ) where
     pub up_to_other : (i : ℕ) → i < columns → (i ≡ k → ⊥) → (m : ℕ) → up_to (bumped c n k s) i m ≡ up_to c i m
     up_to_other i l d zero = refl
     up_to_other i l d (suc m) = omega (arith, up_to_other i l d m, bumped_other (cell_of m i) (λ e. d (omega arith)))
-
--- room that is left after some ones more
-pub room_left : {c d : List ℕ} {n more left : ℕ} (k : ℕ) → HasRoom c n more → left + k ≤ more → length d ≡ length c → GrownBy k c d → HasRoom d n left
-room_left k room h e grew = record { long = omega arith; low = λ x. omega (arith, room.low x, grew x) }
-
--- the two ways to begin
-module _ (c d e : List ℕ) (n first p : ℕ) where
-  pub begun_insert : p < first → d ≡ bumped c n 4 p → e ≡ bumped d n 0 first → e ≡ begun c n first p
-  unfolding begun
-  begun_insert h q r = simp tests (r ∙ ap (λ (l : List ℕ). bumped l n 0 first) q)
-
-  pub begun_bypass : first ≤ p → d ≡ bumped c n 3 first → e ≡ bumped d n 5 p → e ≡ begun c n first p
-  unfolding begun
-  begun_bypass h q r = simp tests (r ∙ ap (λ (l : List ℕ). bumped l n 5 p) q)

@@ -336,15 +336,15 @@ pub record Merging (J L : ℕ → ℕ) (p n : ℕ) (out : List ℕ) (t q last xi
   pub place : last ≡ other_after J p L t
 
 -- Before the other's first size y there is nothing to do.
-pub merging_first : (J L : ℕ → ℕ) (p n : ℕ) (out : List ℕ) (t xi xv x y : ℕ) → 0 < p → Falling L → t ≡ y - 1 → At L n 0 0 0 y → At J n t xi xv x → Merging J L p n out t 0 0 xi xv x 0 0 y
-merging_first J L p n out t xi xv x y hp gl et first a =
-    let later = at_later L n 0 0 0 y (omega arith) first in
-    let none : (m : ℕ) → m ≤ t → other_after J p L m ≡ 0 = λ m h. after_absent J p L m hp (sym (at_still L n 0 0 0 y m gl (omega arith) first (omega arith) (omega arith)).place) in
+pub merging_first : (J L : ℕ → ℕ) (p n : ℕ) (out : List ℕ) (t xi xv x yi yv y : ℕ) → 0 < p → Falling L → t ≡ y - 1 → At L n 0 yi yv y → At J n t xi xv x → Merging J L p n out t 0 0 xi xv x yi yv y
+merging_first J L p n out t xi xv x yi yv y hp gl et first a =
+    let later = at_later L n 0 yi yv y (omega arith) first in
+    let none : (m : ℕ) → m ≤ t → other_after J p L m ≡ 0 = λ m h. after_absent J p L m hp (sym (at_still L n 0 yi yv y m gl (omega arith) first (omega arith) (omega arith)).place ∙ first.place ∙ omega (arith, gl.fits 0)) in
     let same : pairs (other_after J p L) t ≡ [] = level_pairs (other_after J p L) 0 t (omega arith) (λ m h0 hm. none m hm ∙ sym (none 0 (omega arith))) ∙ pairs_zero (other_after J p L) in
     record {
       within = omega arith;
       read = a;
-      other = at_still L n 0 0 0 y t gl (omega arith) first (omega arith) (omega arith);
+      other = at_still L n 0 yi yv y t gl (omega arith) first (omega arith) (omega arith);
       done = record { count = sym (ap length same); same = λ k h. absurd (omega arith) };
       place = sym (none t (omega arith));
     }

@@ -19,7 +19,7 @@ use Rattle.engine.proofs.ListedStretches.{length_pairs}
 use Rattle.engine.proofs.lists.PairFacts.{pairs_own}
 use Rattle.engine.proofs.rows.RowLaws.{kept_same, pairs_none, after_none, row_first, row_none, row_eq, row_same, new_own, new_other, source_up}
 use Rattle.engine.proofs.rows.RowCounts.{stretches_nowhere}
-use Rattle.engine.proofs.renewals.Ways.{Way, row_room_lem, source_most, target_most, moved_fits}
+use Rattle.engine.proofs.renewals.Ways.{Way, row_room_lem, moved_fits}
 
 -- a row that does not begin with 0 has a block
 block_there : (L : ℕ → ℕ → ℕ) (area : List ℕ) (row : Span) (n s : ℕ) → Family L n → 0 < row.room → Row area row (pairs (L s) n) → 0 < get_or area row.start 0 → L s n ≡ s
@@ -31,14 +31,6 @@ block_there L area row n s fam wide held some =
 -- nothing is gained or lost
 abbrev no_changes : Changes
 no_changes = record { gained = 0; lost = 0; longest = 0 }
-
--- a row's numbers are small beside what is counted
-module _ {read : RowRead} {s k : ℕ} {from to : Span} (way : Way read s k from to) {area : ℕ} (fits : Fits read area) (changes more : Changes) (gained : more.gained ≤ to.room) (lost : more.lost ≤ from.room) where
-  pub merged_small : ChangesBelow changes (2 ^ 48) → (changes.gained + more.gained < 2 ^ 64) × (changes.lost + more.lost < 2 ^ 64)
-  merged_small small = (omega (arith, target_most way, fits.narrow, small.0), omega (arith, source_most way, fits.narrow, small.1))
-
-  pub merged_grown : (next : Changes) → Together changes more next → Grown changes next (2 ^ 16)
-  merged_grown next together = (omega (arith, target_most way, fits.narrow, together.0), omega (arith, source_most way, fits.narrow, together.1))
 
 -- a block that comes from place s
 module _ (read : RowRead) {s k : ℕ} (ne : k ≢ read.p) (es : s ≡ source_of read.p read.j k) (J : ℕ → ℕ) (L : ℕ → ℕ → ℕ) where

@@ -33,23 +33,6 @@ pub record Way (read : RowRead) (s k : ℕ) (from to : Span) : Type 0 where
   pub to_is : to ≡ row_of read.n k
 
 module _ {read : RowRead} {s k : ℕ} {from to : Span} (way : Way read s k from to) where
-  pub both_rows : (area : List ℕ) → Fits read (length area) → BothRows from to area
-  both_rows area fits =
-      let source = row_room_lem read (length area) s fits way.low way.within in
-      let target = row_room_lem read (length area) k fits way.to_low way.to_within in
-      rw (way.from_is, way.to_is) (record { source = source.1; target = target.1; source_room = source.0; target_room = target.0 })
-
-  pub source_most : from.room ≤ row_length read.n
-  source_most = rw way.from_is (room_most read.n s)
-
-  pub target_most : to.room ≤ row_length read.n
-  target_most = rw way.to_is (room_most read.n k)
-
-  pub merge_ready : (area scratch : List ℕ) → Fits read (length area) → read.width < length scratch → MergeReady area scratch (span from.start from.room) (span to.start to.room) read.p read.n
-  merge_ready area scratch fits spare =
-      let both = both_rows area fits in
-      record { read_at = fits.read_at; narrow = fits.narrow; source = both.source; target = both.target; spare = omega (arith, source_most, fits.wide) }
-
   -- the list that comes to place k fits its row
   module _ (list : List ℕ) (J : ℕ → ℕ) (L : ℕ → ℕ → ℕ) (pos : 0 < read.p) (finds : Finds list read J L) where
     moved_there : (other_after J read.p (L s) read.n ≡ k) ⊎ ((m : ℕ) → other_after J read.p (L s) m ≡ 0)

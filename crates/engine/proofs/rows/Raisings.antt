@@ -102,52 +102,7 @@ pub record Raising (area₀ area : List ℕ) (from : Span) (to h : ℕ) : Type 0
   pub places : (x : ℕ) → x < h → get_or area (to + 2 * x + 1) 0 ≡ get_or area₀ (from.start + 2 * x + 1) 0 - 1
   pub some : (x : ℕ) → x < h → 0 < get_or area₀ (from.start + 2 * x + 1) 0
 
-pub raising_none : (area : List ℕ) (from : Span) (to : ℕ) → Raising area area from to 0
-raising_none area from to = record {
-  inside = omega arith;
-  kept = kept_same area to (2 * 0);
-  firsts = λ x h. absurd (omega arith);
-  places = λ x h. absurd (omega arith);
-  some = λ x h. absurd (omega arith);
-}
-
 module _ (area₀ area : List ℕ) (from : Span) (to h : ℕ) (raising : Raising area₀ area from to h) where
-  -- the row that is read is as it was
-  module _ (apart : to + from.room ≤ from.start) where
-    source : (y : ℕ) → from.start ≤ y → get_or area y 0 ≡ get_or area₀ y 0
-    source y le = raising.kept.above y (omega (arith, raising.inside))
-
-    module _ (fit : InArea from area₀) (more : 2 * h + 1 < from.room) (place : ℕ) (is : place ≡ get_or area (from.start + 2 * h + 1) 0) (ne : place ≢ 0) where
-      abbrev once : List ℕ
-      once = set area (to + 2 * h) (get_or area (from.start + 2 * h) 0)
-
-      abbrev next : List ℕ
-      next = set once (to + 2 * h + 1) (place - 1)
-
-      other : (y : ℕ) → y ≢ to + 2 * h → y ≢ to + 2 * h + 1 → get_or next y 0 ≡ get_or area y 0
-      other y a b = get_or-set_other once (to + 2 * h + 1) y (place - 1) 0 b ∙ get_or-set_other area (to + 2 * h) y (get_or area (from.start + 2 * h) 0) 0 a
-
-      new_first : get_or next (to + 2 * h) 0 ≡ get_or area₀ (from.start + 2 * h) 0
-      new_first = get_or-set_other once (to + 2 * h + 1) (to + 2 * h) (place - 1) 0 (λ z. omega arith)
-          ∙ get_or-set_same area (to + 2 * h) (get_or area (from.start + 2 * h) 0) 0 (omega (arith, raising.kept.size)) ∙ source (from.start + 2 * h) (omega arith)
-
-      new_place : get_or next (to + 2 * h + 1) 0 ≡ get_or area₀ (from.start + 2 * h + 1) 0 - 1
-      new_place = get_or-set_same once (to + 2 * h + 1) (place - 1) 0 (omega (arith, raising.kept.size, length-set area (to + 2 * h) (get_or area (from.start + 2 * h) 0)))
-          ∙ omega (arith, is, source (from.start + 2 * h + 1) (omega arith))
-
-      pub raising_next : Raising area₀ next from to (h + 1)
-      raising_next = record {
-        inside = omega arith;
-        kept = record {
-          size = length-set once (to + 2 * h + 1) (place - 1) ∙ length-set area (to + 2 * h) (get_or area (from.start + 2 * h) 0) ∙ raising.kept.size;
-          below = λ x l. other x (λ z. omega arith) (λ z. omega arith) ∙ raising.kept.below x l;
-          above = λ x l. other x (λ z. omega arith) (λ z. omega arith) ∙ raising.kept.above x (omega arith);
-        };
-        firsts = λ x l. by_eq x h (λ e. rw e new_first) (λ e. other (to + 2 * x) (λ z. omega (arith, e)) (λ z. omega arith) ∙ raising.firsts x (omega (arith, e)));
-        places = λ x l. by_eq x h (λ e. rw e new_place) (λ e. other (to + 2 * x + 1) (λ z. omega arith) (λ z. omega (arith, e)) ∙ raising.places x (omega (arith, e)));
-        some = λ x l. by_eq x h (λ e. rw e (omega (arith, is, ne, source (from.start + 2 * h + 1) (omega arith)))) (λ e. raising.some x (omega (arith, e)));
-      }
-
   -- the list has no more
   module _ (end : 2 * h + 1 < from.room → get_or area₀ (from.start + 2 * h + 1) 0 ≡ 0) (R S : ℕ → ℕ) (n : ℕ) (up : Raised R S n) (row : Row area₀ from (pairs S n)) where
     entry : (y z : ℕ) → z ≡ from.start + y → y < from.room → get_or area₀ z 0 ≡ get_or (pairs S n) y 0

@@ -90,21 +90,9 @@ row_none area row n R zeros none = record {
 pub never : {X : Type 0} → false ≡ true → X
 never e = absurd (omega (arith, ap bit e))
 
--- What changes the start of a part, and then the part, changes nothing else.
-pub kept_twice : (area mid last : List ℕ) (a v w : ℕ) → v ≤ w → Kept area mid a v → Kept mid last a w → Kept area last a w
-kept_twice area mid last a v w le first second = record {
-  size = second.size ∙ first.size;
-  below = λ x h. second.below x h ∙ first.below x h;
-  above = λ x h. second.above x h ∙ first.above x (omega arith);
-}
-
 -- What writes nothing keeps all.
 pub kept_same : (area : List ℕ) (a w : ℕ) → Kept area area a w
 kept_same area a w = record { size = refl; below = λ x h. refl; above = λ x h. refl }
-
--- What answers that it moved nothing wrote nothing.
-pub unmoved : (area : List ℕ) (a w : ℕ) → Kept area area a w × (false ≡ false → area ≡ area)
-unmoved area a w = (kept_same area a w, λ e. refl)
 
 -- A block that is nowhere stays so.
 pub after_none : (J : ℕ → ℕ) (p : ℕ) (L : ℕ → ℕ) → 0 < p → ((m : ℕ) → L m ≡ 0) → (m : ℕ) → other_after J p L m ≡ 0

@@ -1,57 +1,73 @@
--- Pieces that are put one after the other: what is left to keep, put, gives all that is kept.
+-- The output while it is made: what is left to keep, put where it goes on, makes the output that was asked for.
 use mathlib.Core.Path.{◌≡◌, sym, ap, ap₂, ◌∙◌}
-use mathlib.Core.List.{List}
-use Prim.Native.Nat.{ℕ, ◌+◌, ◌-◌, ◌≤◌, ◌<◌}
+use mathlib.Core.List.{List, ◌∷◌, ◌++◌}
+use Prim.Native.Nat.{ℕ, ◌+◌, ◌-◌, ◌≤◌}
+use native.Mathlib.Nat.{zero-add}
 use native.Mathlib.Omega.{arith}
 use lib.ListN.{length, take, drop, length-append}
+use lib.Seq.{drop-drop, length-take-le}
+use borrow.Rule.Slice.PartMut.{put_mid}
+use Rattle.std.proofs.Common.{None}
+use Rattle.std.proofs.lemmas.Grind.{common_steps}
+use Rattle.terms.specs.Areas.{fronted}
 use Rattle.trace.specs.Writing.{put}
-use Rattle.trace.proofs.Puts.{put_none, put_put, put_length}
+use Rattle.trace.proofs.Puts.{put_put, put_length}
 use Rattle.salvage.specs.declared.pieces.Piece.{Piece}
-use Rattle.salvage.specs.Pieces.{piece_at}
-use Rattle.salvage.specs.Steps.{piece_told, kept_from}
+use Rattle.salvage.specs.Steps.{Told, piece_told, told_from, kept_from, good_after}
 use Rattle.salvage.proofs.Covers.{part_long}
-use Rattle.salvage.proofs.Turns.{turn_in, turn_kept, no_turn}
+use Rattle.salvage.proofs.Turns.{kept_told, Inside, in_turn, kept_turn, in_from, kept_told_from}
+use Rattle.salvage.proofs.Measures.{good_length}
 
--- the buffer at the start and the offset, the trace and where it began; then the buffer, the place in the trace and the one in the buffer
-abbrev pub Left : List ℕ → ℕ → List ℕ → ℕ → List ℕ → (at next : ℕ) → Type 0
-Left b₀ to s from b at next =
-    (at ≤ length s)
-    × (length b ≡ length b₀)
-    × (next + length (kept_from s at) ≤ length b)
-    × (put b next (kept_from s at) ≡ put b₀ to (kept_from s from))
+-- what is kept of pieces fits an output from an offset on, and put there it makes another
+pub record GoesOn (s : List ℕ) (pieces : List Told) (out : List ℕ) (next : ℕ) (made : List ℕ) : Type 0 where
+  pub room : next + length (kept_told s pieces) ≤ length out
+  pub makes : put out next (kept_told s pieces) ≡ made
 
-module _ (b₀ : List ℕ) (to : ℕ) (s : List ℕ) (from : ℕ) (b : List ℕ) (at next : ℕ) (left : Left b₀ to s from b at next) where
-  pub left_none : length s ≤ at → b ≡ put b₀ to (kept_from s from)
-  left_none h = sym (put_none b next) ∙ ap (put b next) (sym (no_turn s at h).0) ∙ left.3
+-- a part at the front is put there
+at_front : (xs out : List ℕ) → fronted xs out ≡ put out 0 xs
+at_front xs out = ap (λ (n : ℕ). xs ++ drop n out) (sym (zero-add (length xs)))
 
-  module _ (h : at < length s) (a : Piece) (e : a ≡ piece_told ((piece_at s at).end - at) (piece_at s at).fate) where
-    part : length (take a.kept (drop at s)) ≡ a.kept
-    part = part_long s at a.kept (omega (arith, turn_in s at h a e))
+-- the header stands at the front
+pub after_head : (s : List ℕ) (at : ℕ) (out head : List ℕ) → at ≤ length s → length (good_after s at) ≤ length out → head ≡ take at s
+    → GoesOn s (told_from s at) (head ++ drop at out) at (fronted (good_after s at) out)
+unfolding good_after kept_from
+after_head s at out head h g e =
+    let kept = kept_told s (told_from s at) in
+    let long : at ≡ 0 + length (take at s) = omega (arith, length-take-le at s h) in
+    let room : 0 + length (take at s) ≤ length out = omega (arith, good_length s at h) in
+    let front : head ++ drop at out ≡ put out 0 (take at s) = ap₂ (λ (k : List ℕ) (n : ℕ). k ++ drop n out) e long in
+    record {
+      room = omega (arith, good_length s at h, ap length front, put_length out 0 (take at s) room);
+      makes = ap₂ (λ (l : List ℕ) (n : ℕ). put l n kept) front long
+          ∙ put_put out 0 (take at s) kept room
+          ∙ sym (at_front (take at s ++ kept) out)
+          ∙ ap (λ (l : List ℕ). fronted (take at s ++ l) out) (kept_told_from s at);
+    }
 
-    long : length (kept_from s at) ≡ a.kept + length (kept_from s (at + a.length))
-    long = omega (arith, ap length (turn_kept s at h a e), length-append (take a.kept (drop at s)) (kept_from s (at + a.length)), part)
+-- a part that was lent from an offset on is put there
+put_there : (out last : List ℕ) (next n : ℕ) → length last ≡ n → put_mid next (next + n - next) out last ≡ put out next last
+put_there out last next n h =
+    ap (λ (l : List ℕ). take next out ++ (last ++ l))
+    (drop-drop (next + n - next) next out ∙ ap (λ (m : ℕ). drop m out) (omega arith))
 
-    -- there is space for what is kept of the piece
-    pub left_next : next + a.kept ≤ length b
-    left_next = omega (arith, left.2, long)
+-- a piece that is kept goes on the output
+pub after_piece : (s : List ℕ) (left after : List Told) (x : Piece) → left ≡ piece_told x ∷ after → Inside s left → x.left_out ≡ None
+    → (out : List ℕ) (next : ℕ) (made last : List ℕ) → GoesOn s left out next made → last ≡ take (x.end - x.start) (drop x.start s)
+    → GoesOn s after (put_mid next (next + (x.end - x.start) - next) out last) (next + (x.end - x.start)) made
+after_piece s left after x e inside g out next made last on f =
+    let n : ℕ = x.end - x.start in
+    let within = in_turn s left after x e inside in
+    let turn = kept_turn s left after x e g in
+    let long : length last ≡ n = ap length f ∙ part_long s x.start n (omega (arith, within)) in
+    let whole : kept_told s left ≡ last ++ kept_told s after = turn ∙ ap (λ (l : List ℕ). l ++ kept_told s after) (sym f) in
+    let room : next + length last ≤ length out = omega (arith, on.room, ap length whole, length-append last (kept_told s after)) in
+    let back = put_there out last next n long in
+    record {
+      room = omega (arith, on.room, ap length whole, length-append last (kept_told s after), ap length back, put_length out next last room, long);
+      makes = ap₂ (λ (l : List ℕ) (m : ℕ). put l (next + m) (kept_told s after)) back (sym long)
+          ∙ put_put out next last (kept_told s after) room
+          ∙ ap (put out next) (sym whole)
+          ∙ on.makes;
+    }
 
-    -- the part between the two places
-    lent : take (at + a.kept - at) (drop at s) ≡ take a.kept (drop at s)
-    lent = let kept : at + a.kept - at ≡ a.kept = omega arith in ap (λ (n : ℕ). take n (drop at s)) kept
-
-    pub left_room : next + length (take (at + a.kept - at) (drop at s)) ≤ length b
-    left_room = omega (arith, left_next, ap length lent, part)
-
-    pub left_turn : (last : List ℕ) → last ≡ put b next (take (at + a.kept - at) (drop at s)) → Left b₀ to s from last (at + a.length) (next + a.kept)
-    left_turn last lent_back =
-        let room : next + length (take a.kept (drop at s)) ≤ length b = omega (arith, left_next, part) in
-        let f : last ≡ put b next (take a.kept (drop at s)) = lent_back ∙ ap (put b next) lent in
-        let same : length last ≡ length b = ap length f ∙ put_length b next (take a.kept (drop at s)) room in (
-          (turn_in s at h a e).1,
-          same ∙ left.1,
-          omega (arith, left.2, long, same),
-          ap₂ (λ (k : List ℕ) (m : ℕ). put k (next + m) (kept_from s (at + a.length))) f (sym part)
-              ∙ put_put b next (take a.kept (drop at s)) (kept_from s (at + a.length)) room
-              ∙ ap (put b next) (sym (turn_kept s at h a e))
-              ∙ left.3,
-        )
+pub ruleset keeps = (common_steps, in_from, good_length, after_head, after_piece)

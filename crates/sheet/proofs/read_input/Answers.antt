@@ -1,32 +1,17 @@
 -- Two reads that stand in the input one after the other consumed what stands there together.
-use Rattle.std.proofs.Common.{◌≡◌, ℕ, ◌+◌, ◌-◌, ◌≤◌, List, ◌++◌, rules, arith, length, take, slice_range, sym, ap, ◌∙◌, subst, le_refl, drop_at, length-take-le}
-use Rattle.std.proofs.lemmas.Slice.{take-put_mid_below}
-use Rattle.std.specs.Io.KnownBytes.{Consumes}
+use Rattle.std.proofs.Common.{◌≡◌, ℕ, ◌+◌, ◌≤◌, List, ◌++◌, rules, length, take, ap, ◌∙◌, length-take-le}
 use Rattle.std.proofs.KnownBytes.{Consumes-trans}
+use Rattle.std.proofs.Math.Seq.{take-append-add, take-append-le}
 use borrow.Rule.Slice.PartMut.{put_mid, post_of}
-use lib.Seq.{take-add, take-append-le}
 use Rattle.sheet.proofs.read_input.Goals as goal
 
-take_split : (a b : ℕ) (old new : List ℕ) → a ≤ b → take a new ≡ take a old → take a old ++ slice_range new a b ≡ take b new
-take_split a b old new h front =
-    let same : a + (b - a) ≡ b = omega arith in
-    ap (λ l. l ++ slice_range new a b) (sym front) ∙ sym (take-add a (b - a) new) ∙ ap (λ n. take n new) same
-
-slice_range-put_mid : (a k n : ℕ) (xs ys : List ℕ) → a ≤ length xs → n ≤ length ys → slice_range (put_mid a k xs ys) a (a + n) ≡ take n ys
-slice_range-put_mid a k n xs ys within fits =
-    let same : (a + n) - a ≡ n = omega arith in
-    let after = post_of a k xs in
-    ap (take ((a + n) - a)) (drop_at (take a xs) (ys ++ after) a (length-take-le a xs within)) ∙ ap (λ m. take m (ys ++ after)) same ∙ take-append-le n ys after fits
+take_read : (a k n : ℕ) (xs ys : List ℕ) → a ≤ length xs → n ≤ length ys → take (a + n) (put_mid a k xs ys) ≡ take a xs ++ take n ys
+take_read a k n xs ys h g =
+    let joined = rw (length-take-le a xs h) at (take-append-add (take a xs) (ys ++ post_of a k xs) n) in
+    joined ∙ ap (λ l. take a xs ++ l) (take-append-le n ys (post_of a k xs) g)
 
 pub loop-length-preserved : goal.loop-length-preserved
 loop-length-preserved g c =
-    let from = c.loop-length.length in
-    let old = c.loop-length.input in
-    let room = length old - from in
-    let within = c.loop-length.invariant.0 in
-    let more = c.in_ok-more.more in
-    let new = put_mid from room old c.read_some.new.part in
-    let part = slice_range-put_mid from room more old c.read_some.new.part within c.in_ok-more.ensures.within in
-    let joined = take_split from (from + more) old new (omega arith) (take-put_mid_below _ _ _ _ _ (le_refl _) within) in
-    let whole = ap (λ l. take from old ++ l) (sym part) ∙ joined in
-    (search rules, search rules, subst (Consumes _ _) whole (Consumes-trans _ _ _ _ _ c.loop-length.invariant.2 c.in_ok-more.ensures.bytes))
+    let loop = c.loop-length in
+    let read = c.in_ok-more.ensures in
+    (search rules, search rules, rw (take_read _ _ _ _ _ loop.invariant.0 read.within) (Consumes-trans _ _ _ _ _ loop.invariant.2 read.bytes))

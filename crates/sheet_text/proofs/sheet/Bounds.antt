@@ -6,7 +6,6 @@ use native.Mathlib.Omega.{arith}
 use lib.ListN.{length, drop, get_or, length-append}
 use Rattle.terms.specs.Ranges.{size}
 use Rattle.terms.specs.Reads.{Read}
-use Rattle.trace.specs.declared.header.Header.TheVariants as the_header
 use Rattle.trace.specs.Reading.{Reading, Given, Refused, Header, header_at, and_then}
 use Rattle.trace.specs.Trace.{reads_from, Trace, trace_of}
 use Rattle.pass.specs.Outcome as outcome
@@ -22,7 +21,7 @@ use Rattle.sheet_text.specs.Sheet.{cell, size_in, longest_sheet}
 -- ---- the size
 
 pub size_within : (s : List ℕ) (x : Reading Header) → header_at size.largest s 0 ≡ x → size_in x ≤ size.largest
-size_within s (Given h at) e = (header_in s (the_header.Accepted h.edition h.size at) (sym e) h.edition h.size at refl).1
+size_within s (Given h at) e = (header_in s h at (sym e)).1
 size_within s (Refused number place) e = omega arith
 
 -- a heading and a line for each size are short: the one place where the value of the largest size counts

@@ -46,8 +46,8 @@ most_none : (n : ℕ) → most_of_one n [] ≡ 0
 unfolding most_of_one
 most_none n = refl
 
-pub totals_none : (n : ℕ) → Totals n [] (record { now = 0; most = 0; one = 0 })
-totals_none n = record { now_is = omega (arith, total_none n); most_is = refl; one_is = refl }
+pub totals_none : (n : ℕ) (sums : Sums) → (sums.now ≡ 0) × ((sums.most ≡ 0) × (sums.one ≡ 0)) → Totals n [] sums
+totals_none n sums zero = record { now_is = omega (arith, total_none n); most_is = zero.1.0; one_is = zero.1.1 }
 
 -- a total is small
 total_small : (n : ℕ) (rs : List Read) → n ≤ size.largest → total n rs < 2 ^ 62

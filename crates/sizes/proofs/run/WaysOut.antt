@@ -7,18 +7,14 @@ use native.Mathlib.Omega.{arith}
 use lib.Dec.{leb}
 use lib.ListN.{length, drop, length-replicate}
 use borrow.Author.Tests.{leb-true}
-use Rattle.terms.specs.declared.Refusal.{Refusal}
 use Rattle.terms.specs.declared.Refusal.TheVariants.{Room}
 use Rattle.terms.specs.Refusals.{number_of}
 use Rattle.terms.specs.Ranges.{size_up_to, size}
 use Rattle.terms.specs.Reads.{Read}
-use Rattle.terms.specs.Areas.{zeros}
+use Rattle.terms.specs.Areas.{zeros, fronted}
 use Rattle.terms.proofs.Ranges.{and_both, bounds}
-use Rattle.trace.specs.declared.header.Header.{Header}
-use Rattle.trace.specs.declared.header.Header.TheVariants as the_header
-use Rattle.trace.specs.Reading.{Reading, Given, Refused, header_of, header_at}
+use Rattle.trace.specs.Reading.{Reading, Given, Refused, Header, header_at}
 use Rattle.trace.specs.Trace.{reads_from}
-use Rattle.trace.specs.Answers.{header_answer}
 use Rattle.trace.proofs.Ends.{Within, header_within}
 use Rattle.trace.proofs.OneSpelling.{Gives}
 use Rattle.trace.proofs.Lengths.{header_given}
@@ -29,7 +25,6 @@ use Rattle.pass.specs.Outcome.{Answer, refused}
 use Rattle.pass.specs.Frame.{Gate, Open, Shut, leaves}
 use Rattle.pass.specs.declared.answers.Report.{Report}
 use Rattle.pass.proofs.Frames.{header_refused, gate_shut, after_events}
-use Rattle.pass.proofs.areas.Clears.{fronted_is}
 use Rattle.sizes.specs.Outcome.{Areas, Outcome, is_room, room_gate, emptied, frame_of, run_of}
 use Rattle.sizes.specs.Passing.{answer_after, counts_after}
 use Rattle.sizes.specs.Answers.{areas_of}
@@ -47,6 +42,10 @@ left_after n areas x = leaves (λ rs. emptied n (counts_of n rs) areas) (emptied
 left_after_lem : (n : ℕ) (areas : Areas) (x : Reading (List Read)) → left_after n areas x ≡ emptied n (counts_after n x) areas
 left_after_lem n areas (Given rs at) = refl
 left_after_lem n areas (Refused number place) = refl
+
+-- a part at the front that has come back
+fronted_is : (front last area : List ℕ) (k : ℕ) → last ≡ front → length front ≡ k → last ++ drop k area ≡ fronted front area
+fronted_is front last area k e l = ap (λ (x : List ℕ). x ++ drop k area) e ∙ ap (λ (i : ℕ). front ++ drop i area) (sym l)
 
 -- what the pass leaves in the fronts of the areas is the outcome
 module _ (blocks stretches counts : List ℕ) (n : ℕ) (x : Reading (List Read)) (o : Outcome) where
@@ -68,30 +67,26 @@ shut_unless t = cond t Open (Shut (number_of Room) 0)
 
 -- ---- the header
 
-module _ (s : List ℕ) (a : Header) (e : header_answer a ≡ header_at size.largest s 0) where
-  given_header : (v n l : ℕ) → a ≡ the_header.Accepted v n l → header_at size.largest s 0 ≡ Given (header_of v n) l
-  given_header v n l g = sym e ∙ ap header_answer g
-
+module _ (s : List ℕ) where
   -- the size is in its range, and the header ends within the trace
-  pub header_in : (v n l : ℕ) → a ≡ the_header.Accepted v n l → (1 ≤ n) × (n ≤ size.largest) × (l ≤ length s)
-  header_in v n l g =
-      let is = given_header v n l g in
-      let good = bounds (size_up_to size.largest) n (subst (Gives _) is (header_given size.largest s 0)).0.1 in
-      (good.0, good.1, (subst (Within 0 (length s)) is (header_within size.largest s 0 (omega arith))).1)
+  pub header_in : (h : Header) (at : ℕ) → Given h at ≡ header_at size.largest s 0 → (1 ≤ h.size) × (h.size ≤ size.largest) × (at ≤ length s)
+  header_in h at e =
+      let good = bounds (size_up_to size.largest) h.size (subst (Gives _) (sym e) (header_given size.largest s 0)).0.1 in
+      (good.0, good.1, (subst (Within 0 (length s)) (sym e) (header_within size.largest s 0 (omega arith))).1)
 
   module _ (areas : Areas) where
-    pub out_refused : (refusal : Refusal) (place : ℕ) → a ≡ the_header.Refused refusal place → run_of s areas ≡ refused (number_of refusal) place areas
-    out_refused refusal place g = header_refused (frame_of s) areas (number_of refusal) place (sym e ∙ ap header_answer g)
+    pub out_refused : (number place : ℕ) → Refused number place ≡ header_at size.largest s 0 → run_of s areas ≡ refused number place areas
+    out_refused number place e = header_refused (frame_of s) areas number place (sym e)
 
-    module _ (v n l : ℕ) (g : a ≡ the_header.Accepted v n l) (t : Bool) (f : t ≡ is_room n areas) where
-      gate_by : (u : Bool) → t ≡ u → room_gate n areas ≡ shut_unless u
-      gate_by u h = ap (λ (b : Bool). shut_unless b) (sym f ∙ h)
+    module _ (h : Header) (at : ℕ) (e : Given h at ≡ header_at size.largest s 0) (t : Bool) (f : t ≡ is_room h.size areas) where
+      gate_by : (u : Bool) → t ≡ u → room_gate h.size areas ≡ shut_unless u
+      gate_by u g = ap (λ (b : Bool). shut_unless b) (sym f ∙ g)
 
       pub out_of_room : t ≡ false → run_of s areas ≡ refused (number_of Room) 0 areas
-      out_of_room h = gate_shut (frame_of s) areas (header_of v n) l (given_header v n l g) (number_of Room) 0 (gate_by false h)
+      out_of_room g = gate_shut (frame_of s) areas h at (sym e) (number_of Room) 0 (gate_by false g)
 
-      pub out_passed : t ≡ true → run_of s areas ≡ record { answer = answer_after n (reads_from (length s) s l); areas = left_after n areas (reads_from (length s) s l) }
-      out_passed h = after_events (frame_of s) areas (header_of v n) l (given_header v n l g) (gate_by true h) (reads_from (length s) s l) refl
+      pub out_passed : t ≡ true → run_of s areas ≡ record { answer = answer_after h.size (reads_from (length s) s at); areas = left_after h.size areas (reads_from (length s) s at) }
+      out_passed g = after_events (frame_of s) areas h at (sym e) (gate_by true g) (reads_from (length s) s at) refl
 
 -- ---- room
 

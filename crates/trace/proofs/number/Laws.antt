@@ -9,6 +9,7 @@ use lib.ListN.{length, get_or, drop, drop_of_length-le}
 use lib.Seq.{drop-cons}
 use lib.Dec.{ltb, leb}
 use borrow.Author.Tests.{leb-true, ltb-true}
+use Rattle.std.proofs.lemmas.Bool.Decides.{nat_tests}
 use Rattle.terms.specs.declared.Refusal.TheVariants.{Cut, Form}
 use Rattle.terms.specs.Refusals.{number_of}
 use Rattle.trace.specs.Number.{Numeral, Value, Fault, after, numeral, top_byte, bytes_before}
@@ -25,17 +26,17 @@ pub numeral_cut : (top left : ℕ) (s : List ℕ) (i : ℕ) → length s ≤ i �
 numeral_cut top left s i h = ap (numeral top left) (drop_of_length-le s h) ∙ numeral_nil top left
 
 -- the last byte that may stand there
-pub numeral_last : (top : ℕ) (s : List ℕ) (i : ℕ) → i < length s
-    → numeral top 0 (drop i s) ≡ cond (leb (get_or s i 0) top) (Value (get_or s i 0) 1) (Fault (number_of Form))
+pub numeral_last : (top left : ℕ) (s : List ℕ) (i : ℕ) → left ≡ 0 → i < length s
+    → numeral top left (drop i s) ≡ cond (leb (get_or s i 0) top) (Value (get_or s i 0) 1) (Fault (number_of Form))
 unfolding numeral
-numeral_last top s i h = ap (numeral top 0) (drop-cons s i 0 h)
+numeral_last top left s i g h = rw g (ap (numeral top 0) (drop-cons s i 0 h))
 
 -- a byte after which another may stand
-pub numeral_more : (top left : ℕ) (s : List ℕ) (i : ℕ) → (left ≡ 0 → ⊥) → i < length s
+pub numeral_more : (top left : ℕ) (s : List ℕ) (i : ℕ) → 1 ≤ left → i < length s
     → numeral top left (drop i s)
     ≡ cond (ltb (get_or s i 0) 128) (Value (get_or s i 0) 1) (after (get_or s i 0) (numeral top (left - 1) (drop (i + 1) s)))
 unfolding numeral
-numeral_more top zero s i g h = absurd (g refl)
+numeral_more top zero s i g h = absurd (omega arith)
 numeral_more top (suc left) s i g h = rw (add-one, sub-one) (ap (numeral top (suc left)) (drop-cons s i 0 h))
 
 -- what follows a byte is not 0
@@ -97,3 +98,6 @@ small_of limited most room (Fault number) p q h = tt
 pub numeral_small : (left : ℕ) (s : List ℕ) → left ≤ bytes_before → Small (numeral top_byte left s)
 numeral_small left s h =
     small_of (limit top_byte left) (suc left) (length s) (numeral top_byte left s) (omega (arith, limit_mono top_byte left bytes_before h)) (omega arith) (numeral_bounded top_byte left s)
+
+-- what the reader of numbers stands on
+pub ruleset number_laws = (nat_tests, numeral_cut, numeral_last, numeral_more, numeral_small)

@@ -1,19 +1,22 @@
 -- Laws of a number's spelling, over both limits of the format, and of spellings one after the other.
-use mathlib.Core.Path.{◌≡◌, refl, sym, ap, subst, ◌∙◌}
-use mathlib.Core.List.{List, [], ◌∷◌}
+use mathlib.Core.Path.{◌≡◌, refl, sym, ap, ◌∙◌}
+use mathlib.Core.List.{List, [], ◌∷◌, ◌++◌, append-nil}
 use mathlib.Core.Bool.{Bool, true, false, cond}
-use Prim.Native.Nat.{ℕ, zero, suc, ◌+◌, ◌*◌, ◌/◌, ◌%◌, ◌≤◌, ◌<◌}
-use native.Mathlib.Numerals.{add-one}
+use Prim.Native.Nat.{ℕ, zero, suc, ◌+◌, ◌/◌, ◌%◌, ◌≤◌, ◌<◌}
 use native.Mathlib.Omega.{arith}
-use lib.ListN.{length, get_or, drop, length-append, drop_of_length-le}
-use lib.Seq.{drop-cons}
+use lib.ListN.{length, get_or, take, length-append}
 use lib.Dec.{ltb}
+use borrow.Author.Rules.{part_to_end}
 use borrow.Author.Tests.{lt-ltb, le-ltb, ltb-false}
+use Rattle.std.proofs.lemmas.List.{take_more}
+use Rattle.std.proofs.lemmas.List.Concat.{length-flat_map, flat_map-append}
+use Rattle.std.proofs.lemmas.List.Folds.{length-flat_map-take}
 use Rattle.terms.specs.Reads.{Read}
 use Rattle.trace.specs.Number.{top_byte, bytes_before}
 use Rattle.trace.specs.Reading.{Header}
 use Rattle.trace.specs.Spelling.{spell, spelling, spellings, header_values, read_values}
-use Rattle.trace.specs.Bounds.{limit, number_limit, Spelled}
+use Rattle.trace.specs.Bounds.{limit, number_limit}
+use Rattle.trace.proofs.Puts.{put_cons, put_one, put_put, put_part}
 
 pub spell_low : (left v : ℕ) → v < 128 → spell left v ≡ v ∷ []
 unfolding spell
@@ -75,22 +78,16 @@ pub read_values_length : (r : Read) → length (spellings (read_values r)) ≡ l
 read_values_length r =
     omega (arith, length_cons r.volume (r.block ∷ r.priority ∷ []), length_cons r.block (r.priority ∷ []), length_cons r.priority [])
 
--- ---- the values from an index on, one by one
+-- the values before an index and the one that stands there
+pub spellings_more : (vs : List ℕ) (i : ℕ) → i < length vs → spellings (take (i + 1) vs) ≡ spellings (take i vs) ++ spelling (get_or vs i 0)
+spellings_more vs i h =
+    ap spellings (take_more vs i 0 h) ∙ flat_map-append spelling (take i vs) (get_or vs i 0 ∷ []) ∙ ap (λ (l : List ℕ). spellings (take i vs) ++ l) (append-nil (spelling (get_or vs i 0)))
 
-module _ (vs : List ℕ) (i : ℕ) (h : i < length vs) where
-  pub next_value : drop i vs ≡ get_or vs i 0 ∷ drop (i + 1) vs
-  next_value = rw (add-one i) (drop-cons vs i 0 h)
+-- what the lengths of numbers stand on
+pub ruleset length_laws = (length-flat_map, spelling_short, length_low, length_high)
 
-  pub next_spelled : Spelled (drop i vs) → (get_or vs i 0 < number_limit) × Spelled (drop (i + 1) vs)
-  next_spelled g = subst Spelled next_value g
+-- and what a number that is written stands on
+pub ruleset written_laws = (spelling_short, spelling_low, spelling_high, length_low, length_high, put_cons, put_one)
 
-  pub next_length : length (spellings (drop i vs)) ≡ length (spelling (get_or vs i 0)) + length (spellings (drop (i + 1) vs))
-  next_length = ap (λ (l : List ℕ). length (spellings l)) next_value ∙ length_cons (get_or vs i 0) (drop (i + 1) vs)
-
--- nothing is left
-pub last_value : (vs : List ℕ) (i : ℕ) → length vs ≤ i → spellings (drop i vs) ≡ []
-last_value vs i h = ap spellings (drop_of_length-le vs h)
-
-pub spellings_short : (vs : List ℕ) → length (spellings vs) ≤ suc bytes_before * length vs
-spellings_short [] = omega arith
-spellings_short (v ∷ vs) = omega (arith, length_cons v vs, spelling_short v, spellings_short vs)
+-- and numbers that are written one after the other
+pub ruleset one_more_laws = (spellings_more, length-flat_map-take, length-append, part_to_end, put_part, put_put)

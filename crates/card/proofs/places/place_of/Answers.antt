@@ -1,80 +1,21 @@
--- `card::places::place_of` meets its contract: the places before a turn's do not hold the block. Assumes nothing.
-use mathlib.Core.Path.{refl}
+-- `card::places::place_of` meets its contract: the fours before the search do not hold the key, and then the first place that does, or none. Assumes nothing.
+use mathlib.Core.Path.{◌∙◌}
+use Prim.Native.Nat.{◌<◌}
 use native.Mathlib.Omega.{arith}
-use Rattle.card.proofs.places.Searches.{fours, none_of_four}
+use Rattle.std.specs.Slice.Iter.{chunks_exact_size, chunks_exact_rest}
+use Rattle.std.specs.Iterator.Runs.{IsChunksExactRun}
+use Rattle.std.proofs.Common.{◌==◌, ◌*◌, rules, tests}
+use Rattle.std.proofs.lemmas.List.{take_rest}
+use Rattle.std.proofs.lemmas.Iterator.{YieldsList-from_slice}
+use Rattle.std.proofs.lemmas.Iterator.Search.{position_from_yields_List}
+use Rattle.card.proofs.places.Searches.{place_is, passed_lack}
 use Rattle.card.proofs.places.place_of.Goals as goal
 
-pub loop-i-init : goal.loop-i-init
-loop-i-init c = (omega arith, refl)
-
-pub overflow_sub-card : goal.overflow_sub-card
-overflow_sub-card c = omega arith
-
-pub offset_bounds-card-i : goal.offset_bounds-card-i
-offset_bounds-card-i c = omega arith
-
-pub bounds-card-i : goal.bounds-card-i
-bounds-card-i c = omega arith
-
-pub overflow_add-result : goal.overflow_add-result
-overflow_add-result c = omega arith
-
-pub returns-then-card-i : goal.returns-then-card-i
-returns-then-card-i c = search fours
-
-pub overflow_add-i : goal.overflow_add-i
-overflow_add-i c = omega arith
-
-pub offset_bounds-card-i-in-loop-i : goal.offset_bounds-card-i-in-loop-i
-offset_bounds-card-i-in-loop-i c = omega arith
-
-pub bounds-card-i-in-loop-i : goal.bounds-card-i-in-loop-i
-bounds-card-i-in-loop-i c = omega arith
-
-pub overflow_add-result-then-card-i-2 : goal.overflow_add-result-then-card-i-2
-overflow_add-result-then-card-i-2 c = omega arith
-
-pub returns-then-card-i-2 : goal.returns-then-card-i-2
-returns-then-card-i-2 c = search fours
-
-pub overflow_add-i-in-loop-i : goal.overflow_add-i-in-loop-i
-overflow_add-i-in-loop-i c = omega arith
-
-pub offset_bounds-card-i-in-loop-i-2 : goal.offset_bounds-card-i-in-loop-i-2
-offset_bounds-card-i-in-loop-i-2 c = omega arith
-
-pub bounds-card-i-in-loop-i-2 : goal.bounds-card-i-in-loop-i-2
-bounds-card-i-in-loop-i-2 c = omega arith
-
-pub overflow_add-result-then-card-i-3 : goal.overflow_add-result-then-card-i-3
-overflow_add-result-then-card-i-3 c = omega arith
-
-pub returns-then-card-i-3 : goal.returns-then-card-i-3
-returns-then-card-i-3 c = search fours
-
-pub overflow_add-i-in-loop-i-2 : goal.overflow_add-i-in-loop-i-2
-overflow_add-i-in-loop-i-2 c = omega arith
-
-pub offset_bounds-card-i-in-loop-i-3 : goal.offset_bounds-card-i-in-loop-i-3
-offset_bounds-card-i-in-loop-i-3 c = omega arith
-
-pub bounds-card-i-in-loop-i-3 : goal.bounds-card-i-in-loop-i-3
-bounds-card-i-in-loop-i-3 c = omega arith
-
-pub overflow_add-result-then-card-i-4 : goal.overflow_add-result-then-card-i-4
-overflow_add-result-then-card-i-4 c = omega arith
-
-pub returns-then-card-i-4 : goal.returns-then-card-i-4
-returns-then-card-i-4 c = search fours
-
-pub overflow_add-i-in-loop-i-3 : goal.overflow_add-i-in-loop-i-3
-overflow_add-i-in-loop-i-3 c = omega arith
-
-pub loop-i-smaller : goal.loop-i-smaller
-loop-i-smaller c = omega arith
-
-pub loop-i-preserved : goal.loop-i-preserved
-loop-i-preserved c = (omega arith, search none_of_four)
-
-pub place_from-requires : goal.place_from-requires
-place_from-requires c = c.loop-i.invariant
+pub returns : goal.returns
+returns c =
+    let below = position_from_yields_List (λ y. y == c.args.key) _ _ c.position-2.result c.position-2.ensures.ran (YieldsList-from_slice _ (c.iter.ensures.rest ∙ take_rest c.args.card.now (c.unwrap_or-fours.result * 4))) (λ x b q k. search (rules, tests)) in
+    let (u, e, m) = c.position.ensures.runs in
+    let run : 0 < chunks_exact_size u.from → IsChunksExactRun u (chunks_exact_size u.from) (chunks_exact_rest u.from) = c.chunks_exact.ensures.runs u u.seen in
+    let fours = (rw (e, c.chunks_exact.ensures.size, c.chunks_exact.ensures.rest) at run) (omega arith) in
+    let (l, h) = passed_lack c.args.card.now c.args.key (λ four q. search (rules, tests)) _ u c.position.result fours m (λ a r q k. search (rules, tests)) in
+    place_is c.args.card.now c.args.key (c.unwrap_or-fours.result * 4) c.map_or.result c.position-2.result (rw c.unwrap_or-fours.ensures l) (rw c.unwrap_or-fours.ensures h) below (search rules)

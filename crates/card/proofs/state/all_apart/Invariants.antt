@@ -1,11 +1,7 @@
 use mathlib.Core.Path.{◌≡◌}
-use Prim.Native.Nat.{◌-◌, ◌≤◌}
-use lib.ListN.{length, drop}
+use lib.ListN.{drop}
 use Rattle.card.specs.State.{apart}
 use Rattle.card.proofs.state.all_apart.Given as goal
 
-abbrev pub invariant-loop-i : goal.invariant-loop-i
-invariant-loop-i l = (l.i ≤ length l.places) × (apart l.places ≡ apart (drop l.i l.places))
-
-abbrev pub decreases-loop-i : goal.decreases-loop-i
-decreases-loop-i l = length l.places - l.i
+abbrev pub invariant-loop-above : goal.invariant-loop-above
+invariant-loop-above l = apart l.places ≡ apart (drop l.above l.places)

@@ -1,11 +1,8 @@
 use mathlib.Core.Path.{◌≡◌}
-use Prim.Native.Nat.{ℕ, ◌-◌, ◌≤◌, ◌<◌}
+use Prim.Native.Nat.{ℕ, ◌≤◌, ◌<◌}
 use lib.ListN.{length, get_or}
 use Rattle.engine.proofs.lists.copy_list.Given as goal
 
 abbrev pub invariant-loop-x : goal.invariant-loop-x
 invariant-loop-x l =
-    (length l.out ≡ length l.initial.out) × (l.x ≤ length l.row) × ((k : ℕ) → k < l.x → 0 < get_or l.row k 0) × ((k : ℕ) → k < l.x → get_or l.out k 0 ≡ get_or l.row k 0) × ((k : ℕ) → l.x ≤ k → get_or l.out k 0 ≡ get_or l.initial.out k 0)
-
-abbrev pub decreases-loop-x : goal.decreases-loop-x
-decreases-loop-x l = length l.row - l.x
+    (length l.out ≡ length l.initial.out) × ((k : ℕ) → k < l.x → 0 < get_or l.row k 0) × ((k : ℕ) → k < l.x → get_or l.out k 0 ≡ get_or l.row k 0) × ((k : ℕ) → l.x ≤ k → get_or l.out k 0 ≡ get_or l.initial.out k 0)

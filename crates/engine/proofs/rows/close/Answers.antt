@@ -1,20 +1,11 @@
 -- The row, lent as a part.
-use native.Mathlib.Omega.{arith}
-use mathlib.Core.Path.{◌≡◌, ◌∙◌}
-use Prim.Native.Nat.{◌+◌, ◌-◌}
-use lib.ListN.{length}
-use Rattle.engine.proofs.rows.RowParts.{put_kept, put_within, mid_at, mid_length, mid_ends}
+use mathlib.Core.Path.{◌∙◌}
+use Rattle.engine.proofs.rows.RowParts.{back_within, lent_ends}
 use Rattle.engine.proofs.rows.close.Goals as goal
 
-pub returns : goal.returns
-returns c =
-    let at = c.args in
-    let pre = c.requires in
-    let me = c.fill in
-    let row = at.row in
-    let ek : row.start + row.room - row.start ≡ row.room = omega arith in
-    let len : length me.new.out ≡ row.room = me.auto.out ∙ mid_length at.area.now row _ pre ek in
-    let within = put_within at.area.now row _ pre ek me.new.out len in record {
-      kept = (put_kept at.area.now row _ pre ek me.new.out len, λ x lt h. within x h ∙ me.ensures.0 x lt ∙ mid_at at.area.now row.start (row.start + row.room - row.start) x (omega arith));
-      closed = λ T n fits same x le h. within x h ∙ me.ensures.1 (mid_ends at.area.now row _ pre ek T n at.q fits same) x le;
-    }
+pub returns-clause-closed : goal.returns-clause-closed
+returns-clause-closed c T n fits same x le h =
+    let area = c.args.area.now in
+    let row = c.args.row in
+    let is = c.range.ensures in
+    back_within area row is c.requires c.fill.new.out c.fill.auto.out x h ∙ c.fill.ensures.1 (lent_ends area row is c.requires T n c.args.q fits same) x le

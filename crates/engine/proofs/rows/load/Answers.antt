@@ -17,14 +17,14 @@ pub copy_row-requires : goal.copy_row-requires
 copy_row-requires c =
     let at = c.args in
     let pre = c.requires in
-    rw (c.row_of.ensures at.n c.row_length.ensures)
+    rw (c.of.ensures at.n c.row_length.ensures)
     (omega (arith, row_inside at.n at.j (omega (arith, c.if-j-eq0.false)) pre.within, pre.room), omega (arith, room_most at.n at.j, pre.wide))
 
 pub returns : goal.returns
 returns c L fall none some q =
     let at = c.args in
     let copy = c.copy_row.ensures in
-    let row = c.row_of.ensures at.n c.row_length.ensures in
+    let row = c.of.ensures at.n c.row_length.ensures in
     let e = copy.begins L at.n (rw row (some (omega (arith, c.if-j-eq0.false)))) in
     by_lt (length (pairs L at.n)) q
     (λ lt. copy.beyond q (omega (arith, e.0)) ∙ c.requires.blank q ∙ sym (get_or-eq_default (pairs L at.n) 0 {n = q} (omega arith)))

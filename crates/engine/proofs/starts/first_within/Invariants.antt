@@ -1,5 +1,4 @@
-use Prim.Native.Nat.{ℕ, ◌-◌, ◌/◌}
-use lib.ListN.{length}
+use Prim.Native.Nat.{ℕ}
 use Rattle.card.specs.Falling.{Falling}
 use Rattle.engine.specs.Lists.{Holds}
 use Rattle.engine.specs.Starts.{Passed}
@@ -7,6 +6,3 @@ use Rattle.engine.proofs.starts.first_within.Given as goal
 
 abbrev pub invariant-loop-i : goal.invariant-loop-i
 invariant-loop-i l = (J : ℕ → ℕ) (n : ℕ) → Falling J → Holds l.list J n → Passed J n l.most l.from → Passed J n l.most l.i
-
-abbrev pub decreases-loop-i : goal.decreases-loop-i
-decreases-loop-i l = length l.list / 2 - l.i

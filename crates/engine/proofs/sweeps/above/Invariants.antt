@@ -1,9 +1,7 @@
-use Prim.Native.Nat.{◌-◌}
-use Rattle.engine.proofs.sweeps.Turns.{Rising}
+use Prim.Native.Nat.{◌-◌, ◌*◌, ◌^◌}
+use Rattle.engine.specs.Renewals.{Grown}
+use Rattle.engine.specs.Sweeps.{Leads}
 use Rattle.engine.proofs.sweeps.above.Given as goal
 
 abbrev pub invariant-loop-k : goal.invariant-loop-k
-invariant-loop-k l = Rising l.list l.read l.initial.k l.lo l.read.n l.initial.area l.initial.scratch l.initial.sum l.area l.scratch l.sum l.k
-
-abbrev pub decreases-loop-k : goal.decreases-loop-k
-decreases-loop-k l = l.lo - l.k
+invariant-loop-k l = Grown l.initial.sum l.sum ((l.k - 1) * 2 ^ 16) × Leads l.list l.read 0 l.read.n l.initial.sum l.initial.area (l.k - 1) l.read.n l.sum l.area

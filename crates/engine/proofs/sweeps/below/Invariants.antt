@@ -1,8 +1,7 @@
-use Rattle.engine.proofs.sweeps.Turns.{Sinking}
+use Prim.Native.Nat.{ℕ, ◌-◌, ◌*◌, ◌^◌, ◌≤◌}
+use Rattle.engine.specs.Renewals.{Grown}
+use Rattle.engine.specs.Sweeps.{Leads}
 use Rattle.engine.proofs.sweeps.below.Given as goal
 
-abbrev pub invariant-loop-k : goal.invariant-loop-k
-invariant-loop-k l = Sinking l.list l.read l.initial.k l.bottom l.bottom l.initial.area l.initial.scratch l.initial.sum l.area l.scratch l.sum l.k
-
-abbrev pub decreases-loop-k : goal.decreases-loop-k
-decreases-loop-k l = l.k
+abbrev pub invariant-loop-above : goal.invariant-loop-above
+invariant-loop-above l = (l.bottom ≤ l.above) × Grown l.initial.sum l.sum ((l.read.n - l.above) * 2 ^ 16) × ((a : ℕ) → a ≤ l.bottom → Leads l.list l.read a l.read.n l.initial.sum l.initial.area a l.above l.sum l.area)

@@ -1,9 +1,7 @@
-use Prim.Native.Nat.{◌-◌}
-use Rattle.engine.proofs.sweeps.Turns.{Sinking}
+use Prim.Native.Nat.{ℕ, ◌-◌, ◌*◌, ◌^◌, ◌≤◌, ◌<◌}
+use Rattle.engine.specs.Renewals.{Grown}
+use Rattle.engine.specs.Sweeps.{Leads}
 use Rattle.engine.proofs.sweeps.down.Given as goal
 
-abbrev pub invariant-loop-k : goal.invariant-loop-k
-invariant-loop-k l = Sinking l.list l.read l.initial.k l.read.p (l.read.p - 1) l.initial.area l.initial.scratch l.initial.sum l.area l.scratch l.sum l.k
-
-abbrev pub decreases-loop-k : goal.decreases-loop-k
-decreases-loop-k l = l.k
+abbrev pub invariant-loop-above : goal.invariant-loop-above
+invariant-loop-above l = (l.read.p ≤ l.above) × Grown l.initial.sum l.sum ((l.bottom - l.above) * 2 ^ 16) × ((a : ℕ) → a < l.read.p → Leads l.list l.read a l.bottom l.initial.sum l.initial.area a l.above l.sum l.area)

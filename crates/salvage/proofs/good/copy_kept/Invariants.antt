@@ -1,10 +1,11 @@
-use Prim.Native.Nat.{◌-◌}
-use lib.ListN.{length}
-use Rattle.salvage.proofs.good.Keeps.{Left}
+use Rattle.terms.specs.Areas.{fronted}
+use Rattle.salvage.specs.Steps.{pieces_left, good_after}
+use Rattle.salvage.proofs.Turns.{Inside}
+use Rattle.salvage.proofs.good.Keeps.{GoesOn}
 use Rattle.salvage.proofs.good.copy_kept.Given as goal
 
-abbrev pub invariant-loop-at : goal.invariant-loop-at
-invariant-loop-at l = Left l.initial.buffer l.to l.trace l.from l.buffer l.at l.next
-
-abbrev pub decreases-loop-at : goal.decreases-loop-at
-decreases-loop-at l = length l.trace - l.at
+abbrev pub invariant-loop-piece : goal.invariant-loop-piece
+invariant-loop-piece l = record {
+  inside : Inside l.trace (pieces_left l.piece-iterator);
+  goes_on : GoesOn l.trace (pieces_left l.piece-iterator) l.out l.next (fronted (good_after l.trace l.start) l.fn.out);
+}

@@ -1,10 +1,11 @@
-use Prim.Native.Nat.{◌-◌}
-use lib.ListN.{length}
-use Rattle.salvage.proofs.good.Measures.{Sofar}
+use Rattle.std.proofs.Common.{◌≡◌, ◌+◌, length}
+use Rattle.salvage.specs.Steps.{pieces_left, good_after, entries_from}
+use Rattle.salvage.proofs.Turns.{kept_told, listed_told, Inside}
 use Rattle.salvage.proofs.good.measure.Given as goal
 
-abbrev pub invariant-loop-at : goal.invariant-loop-at
-invariant-loop-at l = Sofar l.trace l.from l.at l.bytes l.entries
-
-abbrev pub decreases-loop-at : goal.decreases-loop-at
-decreases-loop-at l = length l.trace - l.at
+abbrev pub invariant-loop-piece : goal.invariant-loop-piece
+invariant-loop-piece l = record {
+  inside : Inside l.trace (pieces_left l.piece-iterator);
+  bytes : l.need.bytes + length (kept_told l.trace (pieces_left l.piece-iterator)) ≡ length (good_after l.trace l.start);
+  entries : l.need.entries + length (listed_told (pieces_left l.piece-iterator)) ≡ length (entries_from l.trace l.start);
+}

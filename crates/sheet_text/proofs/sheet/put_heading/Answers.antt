@@ -1,8 +1,11 @@
--- `sheet_text::sheet::put_heading` meets its contract: each call puts in the next part of the line. Assumes nothing.
-use native.Mathlib.Omega.{arith}
-use Rattle.sheet_text.proofs.sheet.Lines.{heading_put}
+-- Each call puts in the next part of the line.
+use Rattle.sheet_text.specs.Sheet.{heading}
+use Rattle.sheet_text.proofs.Puts.{takes_then}
 use Rattle.sheet_text.proofs.sheet.put_heading.Goals as goal
 
-pub returns : goal.returns
-returns c =
-    (heading_put _ c.put_words-at.ensures c.put_spaced-at.ensures.0 c.put_words-at-2.ensures c.put_spaced-at-2.ensures.0 c.put_words-at-3.ensures c.put_spaced-at-3.ensures.0 c.put_words.ensures, omega arith)
+pub returns-clause-takes : goal.returns-clause-takes
+unfolding heading
+returns-clause-takes c =
+    let reads = takes_then c.put_words.ensures c.put_spaced.ensures.takes in
+    let total = takes_then (takes_then reads c.put_words-2.ensures) c.put_spaced-2.ensures.takes in
+    takes_then (takes_then (takes_then total c.put_words-3.ensures) c.put_spaced-3.ensures.takes) c.put_words-4.ensures

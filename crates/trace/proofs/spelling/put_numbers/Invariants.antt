@@ -1,10 +1,12 @@
-use Prim.Native.Nat.{◌-◌}
-use lib.ListN.{length}
-use Rattle.trace.proofs.spelling.Turns.{Left}
+use mathlib.Core.Path.{◌≡◌}
+use Prim.Native.Nat.{◌+◌}
+use lib.ListN.{length, take}
+use Rattle.trace.specs.Spelling.{spellings}
+use Rattle.trace.specs.Writing.{put}
 use Rattle.trace.proofs.spelling.put_numbers.Given as goal
 
-abbrev pub invariant-loop-i : goal.invariant-loop-i
-invariant-loop-i l = Left l.initial.buffer l.at l.values l.buffer l.next l.i
-
-abbrev pub decreases-loop-i : goal.decreases-loop-i
-decreases-loop-i l = length l.values - l.i
+abbrev pub invariant-loop-value : goal.invariant-loop-value
+invariant-loop-value l = record {
+  place : l.next ≡ l.at + length (spellings (take l.value-index l.values));
+  written : l.buffer ≡ put l.initial.buffer l.at (spellings (take l.value-index l.values));
+}

@@ -1,9 +1,0 @@
--- `sizes_test::changed_numbers` ends and reads only its slice.
-use Rattle.std.proofs.Common.{◌-◌, ◌≤◌, length}
-use Rattle.sizes_test.proofs.changed_numbers.Given as goal
-
-abbrev pub invariant-loop-i : goal.invariant-loop-i
-invariant-loop-i l = l.i ≤ length l.area
-
-abbrev pub decreases-loop-i : goal.decreases-loop-i
-decreases-loop-i l = length l.area - l.i
