@@ -83,13 +83,21 @@ def check_example(tally, program):
     tally.equal('no argument', ran(program), (2, '', 'sheet: one file is needed: sheet FILE\n'))
 
 
+def check_outside(tally, archive):
+    """Firmware may have no C library: what the proved library asks for from outside is in one short file."""
+    source = HERE / 'outside' / 'memory.c'
+    tally.equal('the library with %s alone' % source.name, c_tools.links_alone(UNITS / 'alone', unit('outside', source), archive), True)
+
+
 def main(archive=None):
-    tally = compare.Tally()
+    tally, given = compare.Tally(), archive
     folder = pathlib.Path(archive).resolve().parent / 'boundary' if archive else UNITS
     archive = archive or kit.archive('supharoek')
     for needed in (UNITS, folder):
         needed.mkdir(parents=True, exist_ok=True)
     c_tools.clang('-x', 'c++', '-std=c++11', '-pedantic', *INCLUDES, '-fsyntax-only', HEADER)
+    if not given:
+        check_outside(tally, archive)
     check_calls(tally, built('check', sorted(HERE.glob('*.c')), archive, folder))
     if not (compare.UNTIL_FIRST and tally.failed):
         check_example(tally, built('sheet', [kit.ROOT / 'examples' / 'c' / 'sheet.c'], archive, folder))

@@ -40,3 +40,8 @@ def archived(archive, *units):
     archive.unlink(missing_ok=True)
     subprocess.run([TOOLS / 'llvm-ar', 'rcs', archive, *units], check=True)
     return archive
+
+
+def links_alone(program, unit, archive):
+    """Whether all of a static library links with one unit and nothing else."""
+    return subprocess.run([TOOLS / 'ld.lld', '-pie', '-entry', 'memcpy', '--whole-archive', archive, unit, '-o', program]).returncode == 0

@@ -43,6 +43,8 @@ LONG = ((65535, 2 ** 32 - 1, 16383), (65536, 2 ** 32 - 1, 16384), (2 ** 32 - 1,)
 # a group of zeros at the end, more than the largest number, and more bytes than a number has
 NOT_FORMED = tuple(map(bytes.fromhex, ('8000', 'ffffffff10', '808080808001')))
 ENDS = (b'', NOT_FORMED[0], b'\x01')
+# how many entries the longest stored list has
+MANY_ENTRIES = 300
 # how many damaged traces are stored and how many more are handed over, and how many reads one is made of at the most
 DAMAGED, FEW_READS = 2000, 5
 FURTHER, MANY_READS = 6000, 20
@@ -164,6 +166,9 @@ def cases():
     for many in (90, 106):
         data = spelled(*[(0, 0, 0)] * (many - 6), *KINDS[1:], *[(1, 1, 1)] * 6, *KINDS[1:])
         yield with_space(data, 0, 0, 1)
+    # more entries than a byte counts, with a list that is just long enough and with one that is too short by one
+    for room in (0, -1):
+        yield with_space(spelled(KINDS[0], *[KINDS[1]] * MANY_ENTRIES), 0, room, 1)
     for _ in range(DAMAGED):
         yield damaged(pick, FEW_READS)
 

@@ -92,8 +92,14 @@ fn shift(card: &mut [u64], kind: Outcome, j: usize, p: usize, key: u64)
     }
 }
 
+// The place that a priority asks for: a read without a hint has priority 0, and comes to the top.
+pub fn at_least_one(priority: usize) -> usize
+    ensures { result ≡ max 1 priority }
+{
+    priority.max(1)
+}
+
 // The second half of a read, for a block that was found at place j; a place past the last is none, and nothing moves.
-// A read without a hint has priority 0, and comes to the top.
 #[tactic(auto, unfolding(crate::specs::Rule::moved_from))]
 pub fn move_from(card: &mut [u64], key: u64, j: usize, priority: usize)
     ensures { card.new ≡ moved_from card.old key j (max 1 priority) }
@@ -101,7 +107,7 @@ pub fn move_from(card: &mut [u64], key: u64, j: usize, priority: usize)
     if card.len() < j {
         return;
     }
-    let p = priority.max(1);
+    let p = at_least_one(priority);
     let outcome = outcome_of(card.len(), j, p);
     shift(card, outcome, j, p, key);
 }
@@ -112,7 +118,7 @@ pub fn read(card: &mut [u64], key: u64, priority: usize) -> Outcome
     ensures { (outcome_number result ≡ outcome_on card.old key (max 1 priority)) × (card.new ≡ after_read card.old key (max 1 priority)) }
 {
     let j = place_of(card, key);
-    let outcome = outcome_of(card.len(), j, priority.max(1));
+    let outcome = outcome_of(card.len(), j, at_least_one(priority));
     move_from(card, key, j, priority);
     outcome
 }

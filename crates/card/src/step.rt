@@ -24,7 +24,7 @@ pub struct Stepped {
 }
 
 // One read on a card, tested before anything moves.
-#[tactic(auto, using(crate::proofs::step::Cases::tested), unfolding(crate::specs::State::step_of, crate::specs::Run::asked, terms::specs::Ranges::size))]
+#[tactic(auto, using(crate::proofs::step::Cases::tested), unfolding(crate::specs::State::step_of, terms::specs::Ranges::size))]
 fn read_on(card: &mut Card, volume: u64, block: u32, priority: u64) -> Result<Outcome, Refusal>
     ensures { told result card.new ≡ step_of card.old.size card.old.places volume block priority }
 {

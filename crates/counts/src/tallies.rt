@@ -1,5 +1,6 @@
 // The counts area: for each size a tally in each column until the end, and then a count.
-ghost use Rattle.std.specs.Prelude.{◌≡◌, ℕ, get_or};
+ghost use Rattle.std.specs.Prelude.{◌≡◌, ◌+◌, ◌≤◌, ℕ, length, get_or};
+ghost use Rattle.std.proofs.lemmas.List.Edits.{sets};
 ghost use Rattle.card.specs.Falling.{Falling};
 ghost use Rattle.counts.specs.Columns.{columns, row, table};
 ghost use Rattle.counts.specs.Tallies.{SumsGive, Tallies};
@@ -94,6 +95,21 @@ fn counts_of(sums: [u64; COLUMNS], reads: u64) -> [u64; COLUMNS]
     ]
 }
 
+// Puts the counts of a size over its tallies, which begin at an index.
+#[tactic(auto, using(crate::proofs::tallies::Turns::written))]
+fn write_size(counts: &mut [u64], at: usize, size: [u64; COLUMNS])
+    requires { at + columns ≤ length counts.old }
+    ensures { counts.new ≡ sets counts.old at size }
+{
+    let [up, same, down, hit_bypass, insert, miss_bypass] = size;
+    counts[at] = up;
+    counts[at + 1] = same;
+    counts[at + 2] = down;
+    counts[at + 3] = hit_bypass;
+    counts[at + 4] = insert;
+    counts[at + 5] = miss_bypass;
+}
+
 // Turns the tallies into counts in place, size by size.
 pub fn finish(counts: &mut [u64], n: usize, reads: u64)
     requires { FinishReady counts.old n reads }
@@ -102,8 +118,7 @@ pub fn finish(counts: &mut [u64], n: usize, reads: u64)
     let mut sums = [0u64; COLUMNS];
     for m in 0..n {
         let at = COLUMNS * m;
-        let size = &mut counts[at..at + COLUMNS];
-        add_size(&mut sums, size);
-        size.copy_from_slice(&counts_of(sums, reads));
+        add_size(&mut sums, &counts[at..at + COLUMNS]);
+        write_size(counts, at, counts_of(sums, reads));
     }
 }

@@ -6,7 +6,7 @@ use crate::lists::LIST_ROOM;
 use crate::rows::{Changes, load};
 use crate::starts::tally_list;
 use crate::sweeps::renew_all;
-use card::places::{move_from, place_of};
+use card::places::{at_least_one, move_from, place_of};
 
 // The total of stretches, its peak, and the peak of one block.
 #[derive(Clone, Copy, Debug, Default, PartialEq, Eq)]
@@ -86,7 +86,7 @@ pub fn read(
     ensures summed { SummedMore n key (max 1 priority) blocks.old stretches.old sums result }
     ensures small { (x : ℕ) → get_or counts.new x 0 ≤ get_or counts.old x 0 + 1 }
 {
-    let p = priority.max(1);
+    let p = at_least_one(priority);
     let mut list = [0u16; LIST_ROOM];
     let j = find(blocks, stretches, n, key, &mut list);
     // The list says all that the tallies ask; the compiled code is shorter with them last.

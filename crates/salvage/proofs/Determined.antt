@@ -13,11 +13,13 @@ use Rattle.salvage.specs.declared.Entry.{Entry}
 use Rattle.salvage.specs.declared.Salvaged.{Salvaged}
 use Rattle.salvage.specs.declared.Unsalvaged.{Unsalvaged}
 use Rattle.salvage.specs.declared.Unsalvaged.TheVariants.{Header, Short}
+use Rattle.salvage.specs.declared.good.Kept.{Kept}
+use Rattle.salvage.specs.declared.listing.Next.{Next}
 use Rattle.salvage.specs.Pieces.{pieces_of}
 use Rattle.salvage.specs.Good.{good_of}
 use Rattle.salvage.specs.Listing.{list_of}
 use Rattle.salvage.specs.Answers.{Salvaging, salvaging, salvaged_answer, area_after}
-use Rattle.salvage.specs.Steps.{Kept, Next, next_from, entries_told, start_of}
+use Rattle.salvage.specs.Steps.{next_from, entries_told, start_of}
 
 one_fault : (f g : Fault) → number_of f.refusal ≡ number_of g.refusal → f.place ≡ g.place → f ≡ g
 one_fault f g h i = ap₂ (λ (r : Refusal) (p : ℕ). record { refusal = r; place = p }) (one_refusal f.refusal g.refusal h) i

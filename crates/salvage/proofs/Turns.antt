@@ -6,13 +6,13 @@ use native.Mathlib.Omega.{arith}
 use lib.ListN.{length, take, drop}
 use Rattle.std.proofs.Common.{Option, Some, None}
 use Rattle.std.proofs.lemmas.Grind.{common_steps}
-use Rattle.trace.proofs.Puts.{put_cons}
 use Rattle.salvage.specs.declared.Entry.{Entry}
 use Rattle.salvage.specs.declared.pieces.Piece as the
+use Rattle.salvage.specs.declared.listing.Next.{Next}
 use Rattle.salvage.specs.Pieces.{Piece, piece_at, pieces_from}
 use Rattle.salvage.specs.Good.{kept_bytes}
 use Rattle.salvage.specs.Listing.{entry_of, entries_of}
-use Rattle.salvage.specs.Steps.{Told, told, piece_told, told_from, kept_from, entries_from}
+use Rattle.salvage.specs.Steps.{Told, told, piece_told, told_from, kept_from, entries_from, next_at, next_in, next_from}
 use Rattle.salvage.proofs.Onward.{piece_in, pieces_none, pieces_more, by_pieces}
 
 -- ---- what is told of pieces
@@ -37,6 +37,16 @@ abbrev pub listed_told : List Told → List Entry
 listed_told [] = []
 listed_told (t ∷ ts) = listed_if t.start t.end t.number (listed_told ts)
 
+-- the entry of a piece with a number, or what comes after one without
+abbrev next_if : (start end : ℕ) → Option ℕ → Next → Next
+next_if start end None next = next
+next_if start end (Some number) next = next_at (entry_of start (end - start) number) end
+
+-- the first entry; zeros where there is none
+abbrev pub next_told : ℕ → List Told → Next
+next_told at [] = next_at (entry_of 0 0 0) at
+next_told at (t ∷ ts) = next_if t.start t.end t.number (next_told t.end ts)
+
 -- each piece lies within the bytes
 abbrev pub Inside : List ℕ → List Told → Type 0
 Inside s [] = Unit
@@ -60,6 +70,14 @@ module _ (s : List ℕ) where
   pub listed_told_from : (at : ℕ) → listed_told (told_from s at) ≡ entries_from s at
   unfolding told_from entries_from
   listed_told_from at = listed_map (pieces_from s at)
+
+  next_map : (at : ℕ) (pieces : List Piece) → next_told at (map told pieces) ≡ next_in at pieces
+  next_map at [] = refl
+  next_map at (piece ∷ pieces) = grind (arith, next_map piece.end pieces)
+
+  pub next_told_from : (at : ℕ) → next_told at (told_from s at) ≡ next_from s at
+  unfolding told_from next_from
+  next_told_from at = next_map at (pieces_from s at)
 
   pub in_from : (at : ℕ) → Inside s (told_from s at)
   unfolding told_from
@@ -88,5 +106,5 @@ module _ (s : List ℕ) (left after : List Told) (x : the.Piece) (e : left ≡ p
 -- for the iterator
 pub ruleset first_of_pieces = (told_none, told_more)
 
--- for the list
-pub ruleset listed = (common_steps, in_from, listed_told_from, put_cons)
+-- for an entry
+pub ruleset next_of_pieces = (common_steps, in_from, next_told_from)

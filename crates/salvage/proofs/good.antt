@@ -1,2 +1,3 @@
 -- What serves the writer of the good trace.
+pub mod Copies
 pub mod Keeps

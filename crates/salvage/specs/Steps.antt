@@ -1,5 +1,5 @@
 -- What the functions behind a salvage promise each other.
-use Rattle.std.specs.Prelude.{ℕ, ◌-◌, Option, Some, None, Result, List, [], ◌∷◌, map}
+use Rattle.std.specs.Prelude.{ℕ, zero, suc, ◌+◌, ◌-◌, Option, Some, None, List, [], ◌∷◌, map, set}
 use Rattle.std.specs.Option.{option_map}
 use Rattle.terms.specs.Refusals.{number_of}
 use Rattle.trace.specs.Reading.{Reading, Given, Refused}
@@ -10,8 +10,7 @@ use Rattle.salvage.specs.Listing.{entry_of, entries_of}
 use Rattle.salvage.specs.Answers as answers
 use Rattle.salvage.specs.Answers.{Salvaging}
 use Rattle.salvage.specs.declared.Entry.{Entry}
-use Rattle.salvage.specs.declared.Salvaged.{Salvaged}
-use Rattle.salvage.specs.declared.Unsalvaged.{Unsalvaged}
+use Rattle.salvage.specs.declared.listing.Next.{Next}
 use Rattle.salvage.specs.declared.pieces.Piece.{Piece}
 use Rattle.salvage.specs.declared.pieces.Pieces.{Pieces}
 
@@ -55,11 +54,6 @@ unfoldable pub entries_from : List ℕ → ℕ → List Entry
 entries_from s at = entries_of (pieces_from s at)
 
 -- an entry, and the place after its piece
-pub record Next : Type 0 where
-  pub entry : Entry
-  pub at : ℕ
-
--- the two together
 abbrev pub next_at : Entry → ℕ → Next
 next_at entry at = record { entry = entry; at = at }
 
@@ -77,11 +71,10 @@ next_in at (piece ∷ pieces) = or_next piece.start piece.end piece.fate (next_i
 unfoldable pub next_from : List ℕ → ℕ → Next
 next_from s at = next_in at (pieces_from s at)
 
--- an answer; and for the list, where the first piece begins and how many entries it is to hold
-pub record Kept : Type 0 where
-  pub answer : Result Salvaged Unsalvaged
-  pub start : ℕ
-  pub entries : ℕ
+-- n entries from a place of the bytes on, put into a list from an index on
+abbrev pub written : (n : ℕ) → List ℕ → (at index : ℕ) → List Entry → List Entry
+written zero s at index list = list
+written (suc n) s at index list = written n s (next_from s at).at (index + 1) (set list index (next_from s at).entry)
 
 -- how many entries an answer asks for
 abbrev pub entries_told : Salvaging → ℕ

@@ -27,6 +27,8 @@ fn refused_length(part: &[u8]) -> usize
 }
 
 // The piece that begins at a place of a trace.
+// It and `next` are part of each loop, which then needs no piece in memory.
+#[inline(always)]
 #[tactic(auto, using(crate::proofs::pieces::Cases::piece_cases))]
 fn piece_at(trace: &[u8], start: usize) -> Piece
     requires { start ≤ length trace.now }
@@ -67,6 +69,7 @@ impl Iterator for Pieces<'_> {
 
     ghost remaining = { item_count pieces_left };
 
+    #[inline(always)]
     #[tactic(auto, using(crate::proofs::Turns::first_of_pieces))]
     fn next(&mut self) -> Option<Piece> {
         if self.trace.len() <= self.at {

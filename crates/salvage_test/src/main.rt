@@ -6,6 +6,8 @@
 
 ghost use Rattle.std.specs.Prelude.{◌<◌, length, IfSome};
 
+use salvage::good::keep_bytes;
+use salvage::listing::next_entry;
 use salvage::{Entry, Salvaged, Unsalvaged, salvage};
 use std::io;
 use std::io::Read;
@@ -17,8 +19,11 @@ const LARGEST_INPUT: u64 = 65536;
 // The length of the output of which a case is lent a part.
 const OUTPUT: usize = 320;
 
-// The length of the list of which a case is lent a part; no case has more entries.
+// The length of the list of which a case is lent a part.
 const LIST: usize = 128;
+
+// The bytes of the shortest record: no trace has more entries than records of that length.
+const SHORTEST_RECORD: usize = 3;
 
 // An entry that no trace has fills the list before the salvage.
 const NO_ENTRY: Entry = Entry {
@@ -73,26 +78,51 @@ fn print_output(rt: &impl Print, out: &[u8], filled: u8) -> io::Result<()> {
     Ok(())
 }
 
+fn print_entry(rt: &impl Print, entry: Entry) -> io::Result<()> {
+    print!(rt; " {} {} {}", entry.offset, entry.length, entry.number)
+}
+
 // The entries up to the last one that did not fill the list.
 fn print_list(rt: &impl Print, list: &[Entry]) -> io::Result<()> {
     print!(rt; " list")?;
     if let Some(last) = list.iter().rposition(|entry| *entry != NO_ENTRY) {
         for entry in &list[..=last] {
-            print!(rt; " {} {} {}", entry.offset, entry.length, entry.number)?;
+            print_entry(rt, *entry)?;
         }
     }
     Ok(())
 }
 
+// So many entries from a place of a trace on, each as it is found.
+fn print_entries(rt: &impl Print, trace: &[u8], start: usize, entries: usize) -> io::Result<()> {
+    print!(rt; " list")?;
+    let mut at = start;
+    for _ in 0..entries {
+        let next = next_entry(trace, at);
+        print_entry(rt, next.entry)?;
+        at = next.at;
+    }
+    Ok(())
+}
+
+// A list of more entries than any trace has is as good as one of that many. Where that is still more than there is a list for, the two calls that a salvage is
+// made of stand for it.
 fn run(rt: &impl Print, case: Case<'_>) -> io::Result<()> {
     let mut out = [case.filled; OUTPUT];
-    let mut list = [NO_ENTRY; LIST];
     let space = case.space.min(OUTPUT);
-    let room = case.room.min(LIST);
-    let answer = salvage(case.trace, &mut out[..space], &mut list[..room]);
-    print_answer(rt, answer)?;
-    print_output(rt, &out, case.filled)?;
-    print_list(rt, &list)?;
+    let room = case.room.min(case.trace.len() / SHORTEST_RECORD);
+    if room <= LIST {
+        let mut list = [NO_ENTRY; LIST];
+        let answer = salvage(case.trace, &mut out[..space], &mut list[..room]);
+        print_answer(rt, answer)?;
+        print_output(rt, &out, case.filled)?;
+        print_list(rt, &list)?;
+    } else {
+        let kept = keep_bytes(case.trace, &mut out[..space], room);
+        print_answer(rt, kept.answer)?;
+        print_output(rt, &out, case.filled)?;
+        print_entries(rt, case.trace, kept.start, kept.entries)?;
+    }
     println!(rt)
 }
 

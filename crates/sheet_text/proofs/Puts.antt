@@ -4,8 +4,8 @@ use mathlib.Core.List.{List, [], ◌∷◌, ◌++◌}
 use Prim.Native.Nat.{ℕ, suc, ◌+◌, ◌/◌, ◌%◌, ◌≤◌, ◌<◌}
 use native.Mathlib.Nat.{add-zero}
 use native.Mathlib.Omega.{arith}
-use lib.ListN.{length, get_or, take, set, length-append}
-use lib.Seq.{take-nil}
+use lib.ListN.{length, get_or, take, set, length-append, length-set}
+use lib.Seq.{take-nil, take_all}
 use Rattle.std.proofs.lemmas.List.{take_more}
 use Rattle.sheet_text.specs.declared.text.Text.{Text}
 use Rattle.sheet_text.specs.Decimal.{digit, decimal}
@@ -15,9 +15,13 @@ use Rattle.sheet_text.proofs.Decimals.{decimal_low, decimal_step}
 
 -- ---- one write after the other
 
-put_none : {text : List ℕ} {at : ℕ} → Wrote text text at at []
+pub put_none : {text : List ℕ} {at : ℕ} → Wrote text text at at []
 unfolding put_from
 put_none {text} {at} = record { text = refl; place = omega arith }
+
+pub put_one : {text : List ℕ} {at b : ℕ} → Wrote text (set text at b) at (at + 1) (b ∷ [])
+unfolding put_from
+put_one {text} {at} {b} = record { text = refl; place = omega arith }
 
 put_both : (s : List ℕ) (at : ℕ) (xs ys : List ℕ) → put_from (put_from s at xs) (at + length xs) ys ≡ put_from s at (xs ++ ys)
 unfolding put_from
@@ -32,6 +36,23 @@ put_then {a} {b} {c} {at} {mid} {end} {xs} {ys} v w = record {
   text = w.text ∙ ap₂ (λ (s : List ℕ) (n : ℕ). put_from s n ys) v.text v.place ∙ put_both a at xs ys;
   place = omega (arith, v.place, w.place, length-append xs ys);
 }
+
+-- it changes no length
+length_put : (s : List ℕ) (at : ℕ) (xs : List ℕ) → length (put_from s at xs) ≡ length s
+unfolding put_from
+length_put s at [] = refl
+length_put s at (b ∷ xs) = length_put (set s at b) (at + 1) xs ∙ length-set s at b
+
+pub put_length : {a b : List ℕ} {at end : ℕ} {xs : List ℕ} → Wrote a b at end xs → length b ≡ length a
+put_length {a} {b} {at} {end} {xs} w = ap length w.text ∙ length_put a at xs
+
+-- the next of some words, and all of them
+module _ {a b : List ℕ} {at mid : ℕ} (words : List ℕ) (i : ℕ) (w : Wrote a b at mid (take i words)) where
+  pub next_word : {c : List ℕ} {end : ℕ} → i < length words → c ≡ set b mid (get_or words i 0) → end ≡ mid + 1 → Wrote a c at end (take (i + 1) words)
+  next_word {c} {end} h e f = subst (Wrote a c at end) (sym (take_more words i 0 h)) (put_then w (rw (e, f) put_one))
+
+  pub all_words : length words ≤ i → Wrote a b at mid words
+  all_words h = subst (Wrote a b at mid) (take_all i words h) w
 
 -- ---- what a write from the front leaves
 

@@ -32,9 +32,9 @@ fn step_values(
         places: given,
     };
     let stepped = step(card, volume, block, priority);
+    let outcome = stepped.answer?;
     let left = stepped.card.places;
     *lent = left;
-    let outcome = stepped.answer?;
     Ok([u64::from(u32::from(outcome)), u64::from(outcome.is_hit())])
 }
 

@@ -1,5 +1,5 @@
 // The values that a call tells, and the number that it answers.
-ghost use Rattle.std.specs.Prelude.{◌≡◌, None, Some, Err};
+ghost use Rattle.std.specs.Prelude.{◌≡◌, None, Some, Err, set};
 ghost use Rattle.salvage.specs.Answers.{salvaged_answer};
 ghost use Rattle.sheet_text.specs.Sheet.{shown};
 ghost use Rattle.supharoek.specs.Told.{Tells, salvage_told, told_of};
@@ -47,12 +47,22 @@ impl From<Unsalvaged> for Refused {
     }
 }
 
-// Values go to the front of the caller's numbers, as far as they fit.
+// One value, where there is a place for it.
+fn put(out: &mut [u64], at: usize, value: u64)
+    ensures { out.new ≡ set out.old at value }
+{
+    if at < out.len() {
+        out[at] = value;
+    }
+}
+
+// Values go to the front of the caller's numbers, as far as they fit. They are a handful, which one by one cost less than a call that copies.
 fn show(out: &mut [u64], values: &[u64])
     ensures { out.new ≡ shown values.now out.old }
 {
-    let fit = values.len().min(out.len());
-    out[..fit].copy_from_slice(&values[..fit]);
+    for at in 0..values.len() {
+        put(out, at, values[at]);
+    }
 }
 
 // Tells what a call found, or why it is refused, and answers the refusal's number, 0 where nothing is refused.

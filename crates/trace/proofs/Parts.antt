@@ -70,6 +70,10 @@ module _ (s : List ℕ) (at : ℕ) where
   formed_refused number place e = of_part _ _ (Refused number place) e
 
   -- those of the format
+  pub placed_read : (r : Placed) (n : ℕ) → Given r n ≡ placed_at (take (length s - at) (drop at s)) 0 → placed_at s at ≡ Given (shifted at r) (at + n)
+  unfolding placed_at
+  placed_read r n e = of_part volume priority (Given r n) e
+
   pub record_read : (r : Placed) (n : ℕ) → Given r n ≡ placed_at (take (length s - at) (drop at s)) 0 → record_at s at ≡ Given r.read (at + n)
   unfolding record_at placed_at
   record_read r n e = rw (of_part volume priority (Given r n) e)

@@ -3,7 +3,7 @@ ghost use Rattle.std.specs.Prelude.{◌≡◌};
 ghost use Rattle.trace.specs.Reading.{Given, field};
 ghost use Rattle.trace.specs.Answers.{field_answer};
 
-use crate::number::read_number;
+use crate::number::{fault, read_number};
 use terms::Fault;
 use terms::range::Range;
 
@@ -20,7 +20,10 @@ pub(crate) fn read_field(part: &[u8], at: usize, range: Range) -> Result<Field, 
     ensures { field_answer result ≡ field range part.now at (λ value end. Given value end) }
 {
     let told = |refusal| Fault { refusal, place: at };
-    let number = read_number(part, at).map_err(told)?;
+    let answer = read_number(part, at);
+    let Ok(number) = answer else {
+        return Err(told(fault(answer)));
+    };
     range.check(number.value).map_err(told)?;
     Ok(Field {
         value: number.value,

@@ -32,7 +32,7 @@ pub fn read_header(trace: &[u8], largest: u64) -> Result<Header, Fault>
 }
 
 // Writes a header into a buffer from an offset on; answers its length.
-#[tactic(auto, unfolding(crate::specs::Writing::header_writing, terms::specs::Ranges::edition, terms::specs::Ranges::size, crate::specs::Bounds::number_limit))]
+#[tactic(auto, using(crate::proofs::Ranged::header_low), unfolding(crate::specs::Writing::header_writing))]
 pub fn write_header(buffer: &mut [u8], at: usize, edition: u64, size: u64) -> Result<usize, Refusal>
     ensures { (written_answer result ≡ header_writing (header_of edition size) (length buffer.old) at)
         × (buffer.new ≡ buffer_after (written_answer result) buffer.old at (spellings (header_values (header_of edition size)))) }

@@ -1,6 +1,7 @@
 // A number: groups of seven bits, lowest group first, bit 7 set in every byte but the last.
 ghost use Rattle.std.specs.Prelude.{◌≡◌, ◌≤◌, drop};
-ghost use Rattle.trace.specs.Number.{Value, numeral, number_at, after, top_byte, bytes_before};
+ghost use Rattle.terms.specs.Refusals.{number_of};
+ghost use Rattle.trace.specs.Number.{Value, numeral, number_at, after, fault_of, top_byte, bytes_before};
 ghost use Rattle.trace.specs.Answers.{number_answer};
 ghost use Rattle.trace.specs.Bounds.{Small};
 
@@ -58,4 +59,12 @@ pub fn read_number(part: &[u8], at: usize) -> Result<Number, Refusal>
     ensures { number_answer result ≡ number_at part.now at }
 {
     number_from(part, at, BYTES_BEFORE)
+}
+
+// The refusal of an answer that is no number.
+#[tactic(auto, using(crate::proofs::Determined::fault_told))]
+pub fn fault(answer: Result<Number, Refusal>) -> Refusal
+    ensures { number_of result ≡ fault_of (number_answer answer) }
+{
+    answer.err().unwrap_or(Refusal::Form)
 }

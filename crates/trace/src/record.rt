@@ -21,7 +21,8 @@ pub struct Record {
     pub length: usize,
 }
 
-// The record at the front of a part, its volume and its priority in these ranges.
+// The record at the front of a part, its volume and its priority in these ranges; part of its two callers, whose ranges are constants there.
+#[inline(always)]
 #[tactic(auto, unfolding(crate::specs::Reading::placed_in))]
 fn record_in(part: &[u8], volumes: Range, priorities: Range) -> Result<Record, Fault>
     ensures { record_answer result ≡ placed_in volumes priorities part.now 0 }
@@ -78,7 +79,7 @@ fn values_of(volume: u64, block: u32, priority: u64) -> [u64; 3]
 }
 
 // Writes a record into a buffer from an offset on; answers its length.
-#[tactic(auto, unfolding(crate::specs::Writing::record_writing, terms::specs::Ranges::volume, terms::specs::Ranges::block, terms::specs::Ranges::priority, crate::specs::Bounds::number_limit))]
+#[tactic(auto, using(crate::proofs::Ranged::word_block), unfolding(crate::specs::Writing::record_writing))]
 pub fn write_record(
     buffer: &mut [u8],
     at: usize,

@@ -5,8 +5,7 @@ use Prim.Native.Nat.{ℕ, ◌+◌, ◌-◌, ◌≤◌}
 use native.Mathlib.Nat.{zero-add}
 use native.Mathlib.Omega.{arith}
 use lib.ListN.{length, take, drop, length-append}
-use lib.Seq.{drop-drop, length-take-le}
-use borrow.Rule.Slice.PartMut.{put_mid}
+use lib.Seq.{length-take-le}
 use Rattle.std.proofs.Common.{None}
 use Rattle.std.proofs.lemmas.Grind.{common_steps}
 use Rattle.terms.specs.Areas.{fronted}
@@ -29,31 +28,24 @@ at_front xs out = ap (λ (n : ℕ). xs ++ drop n out) (sym (zero-add (length xs)
 
 -- the header stands at the front
 pub after_head : (s : List ℕ) (at : ℕ) (out head : List ℕ) → at ≤ length s → length (good_after s at) ≤ length out → head ≡ take at s
-    → GoesOn s (told_from s at) (head ++ drop at out) at (fronted (good_after s at) out)
+    → GoesOn s (told_from s at) (put out 0 head) at (fronted (good_after s at) out)
 unfolding good_after kept_from
 after_head s at out head h g e =
     let kept = kept_told s (told_from s at) in
-    let long : at ≡ 0 + length (take at s) = omega (arith, length-take-le at s h) in
-    let room : 0 + length (take at s) ≤ length out = omega (arith, good_length s at h) in
-    let front : head ++ drop at out ≡ put out 0 (take at s) = ap₂ (λ (k : List ℕ) (n : ℕ). k ++ drop n out) e long in
+    let long : 0 + length head ≡ at = omega (arith, length-take-le at s h, ap length e) in
+    let room : 0 + length head ≤ length out = omega (arith, good_length s at h) in
     record {
-      room = omega (arith, good_length s at h, ap length front, put_length out 0 (take at s) room);
-      makes = ap₂ (λ (l : List ℕ) (n : ℕ). put l n kept) front long
-          ∙ put_put out 0 (take at s) kept room
-          ∙ sym (at_front (take at s ++ kept) out)
-          ∙ ap (λ (l : List ℕ). fronted (take at s ++ l) out) (kept_told_from s at);
+      room = omega (arith, good_length s at h, put_length out 0 head room);
+      makes = ap (λ (n : ℕ). put (put out 0 head) n kept) (sym long)
+          ∙ put_put out 0 head kept room
+          ∙ sym (at_front (head ++ kept) out)
+          ∙ ap₂ (λ (l k : List ℕ). fronted (l ++ k) out) e (kept_told_from s at);
     }
-
--- a part that was lent from an offset on is put there
-put_there : (out last : List ℕ) (next n : ℕ) → length last ≡ n → put_mid next (next + n - next) out last ≡ put out next last
-put_there out last next n h =
-    ap (λ (l : List ℕ). take next out ++ (last ++ l))
-    (drop-drop (next + n - next) next out ∙ ap (λ (m : ℕ). drop m out) (omega arith))
 
 -- a piece that is kept goes on the output
 pub after_piece : (s : List ℕ) (left after : List Told) (x : Piece) → left ≡ piece_told x ∷ after → Inside s left → x.left_out ≡ None
     → (out : List ℕ) (next : ℕ) (made last : List ℕ) → GoesOn s left out next made → last ≡ take (x.end - x.start) (drop x.start s)
-    → GoesOn s after (put_mid next (next + (x.end - x.start) - next) out last) (next + (x.end - x.start)) made
+    → GoesOn s after (put out next last) (next + (x.end - x.start)) made
 after_piece s left after x e inside g out next made last on f =
     let n : ℕ = x.end - x.start in
     let within = in_turn s left after x e inside in
@@ -61,10 +53,9 @@ after_piece s left after x e inside g out next made last on f =
     let long : length last ≡ n = ap length f ∙ part_long s x.start n (omega (arith, within)) in
     let whole : kept_told s left ≡ last ++ kept_told s after = turn ∙ ap (λ (l : List ℕ). l ++ kept_told s after) (sym f) in
     let room : next + length last ≤ length out = omega (arith, on.room, ap length whole, length-append last (kept_told s after)) in
-    let back = put_there out last next n long in
     record {
-      room = omega (arith, on.room, ap length whole, length-append last (kept_told s after), ap length back, put_length out next last room, long);
-      makes = ap₂ (λ (l : List ℕ) (m : ℕ). put l (next + m) (kept_told s after)) back (sym long)
+      room = omega (arith, on.room, ap length whole, length-append last (kept_told s after), put_length out next last room, long);
+      makes = ap (λ (m : ℕ). put (put out next last) (next + m) (kept_told s after)) (sym long)
           ∙ put_put out next last (kept_told s after) room
           ∙ ap (put out next) (sym whole)
           ∙ on.makes;

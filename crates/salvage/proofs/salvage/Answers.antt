@@ -1,23 +1,42 @@
--- `salvage::salvage` meets its contract, by what the reader of the header answered. Assumes nothing.
-use Rattle.std.proofs.Common.{arith}
-use Rattle.std.proofs.lemmas.Bool.Decides.{nat_tests}
-use Rattle.terms.specs.Ranges.{size}
-use Rattle.salvage.proofs.WaysOut.{After, header_read}
+-- `salvage::salvage` meets its contract: the entries that the answer asks for fit the list, and written they are the list after it. Assumes nothing.
+use mathlib.Core.Path.{◌≡◌, sym, ap, subst, ◌∙◌}
+use mathlib.Core.List.{List}
+use Prim.Native.Nat.{ℕ, ◌≤◌}
+use lib.ListN.{length}
+use Rattle.salvage.specs.Pieces.{pieces_of}
+use Rattle.salvage.specs.Listing.{list_of}
+use Rattle.salvage.specs.Answers.{Salvaging, salvaging, salvaged_answer, area_after}
+use Rattle.salvage.specs.Steps.{written, entries_told, start_of}
+use Rattle.salvage.specs.declared.Entry.{Entry}
+use Rattle.salvage.specs.declared.good.Kept.{Kept}
+use Rattle.salvage.proofs.Listings.{told_fit, list_after}
 use Rattle.salvage.proofs.salvage.Goals as goal
-use Rattle.salvage.proofs.salvage.Goals.{In_ok-header}
 
-after_header : (c : In_ok-header) → After c.args.trace.now c.in_ok-header.header.length
-unfolding size
-after_header c = header_read c.args.trace.now c.read_header.result c.read_header.ensures c.in_ok-header.header c.in_ok-header.ensures.cases
+-- what is kept, for an output of so many bytes and a list
+module _ (s : List ℕ) (space : ℕ) (list : List Entry) (r : Kept) (answered : salvaged_answer r.answer ≡ salvaging s space (length list)) (counted : r.entries ≡ entries_told (salvaged_answer r.answer)) where
+  told : r.entries ≡ entries_told (salvaging s space (length list))
+  told = counted ∙ ap entries_told answered
 
-pub measure-need-requires : goal.measure-need-requires
-measure-need-requires c = (after_header (goal.at.measure-need-requires c).In_ok-header).within
+  fit : r.entries ≤ length list
+  fit = subst (λ (n : ℕ). n ≤ length list) (sym told) (told_fit s space (length list))
 
-pub returns-then-out-need : goal.returns-then-out-need
-returns-then-out-need c = let after = after_header (goal.at.returns-then-out-need c).In_ok-header in grind (arith, nat_tests, after.answer)
+  -- the list that is written, by the answer
+  listed : r.start ≡ start_of (pieces_of s) → written r.entries s r.start 0 list ≡ area_after (salvaged_answer r.answer) (list_of s) list
+  listed begins =
+      ap (λ (n : ℕ). written n s r.start 0 list) told
+      ∙ ap (λ (start : ℕ). written (entries_told (salvaging s space (length list))) s start 0 list) begins
+      ∙ list_after s space list
+      ∙ ap (λ (answer : Salvaging). area_after answer (list_of s) list) (sym answered)
 
-pub copy_kept-requires : goal.copy_kept-requires
-copy_kept-requires c = let after = after_header (goal.at.copy_kept-requires c).In_ok-header in omega arith
+pub write_entries-requires : goal.write_entries-requires
+write_entries-requires c = fit c.args.trace.now (length c.args.out.now) c.args.list.now c.keep_bytes-kept.result c.keep_bytes-kept.ensures.0 c.keep_bytes-kept.ensures.3
 
 pub returns : goal.returns
-returns c = let after = after_header (goal.at.returns c).In_ok-header in grind (arith, nat_tests, after.answer)
+returns c = (
+  c.keep_bytes-kept.ensures.0,
+  (
+    c.keep_bytes-kept.ensures.1,
+    c.write_entries.ensures
+        ∙ listed c.args.trace.now (length c.args.out.now) c.args.list.now c.keep_bytes-kept.result c.keep_bytes-kept.ensures.0 c.keep_bytes-kept.ensures.3 c.keep_bytes-kept.ensures.2,
+  ),
+)

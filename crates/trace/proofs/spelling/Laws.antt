@@ -2,7 +2,7 @@
 use mathlib.Core.Path.{◌≡◌, refl, sym, ap, ◌∙◌}
 use mathlib.Core.List.{List, [], ◌∷◌, ◌++◌, append-nil}
 use mathlib.Core.Bool.{Bool, true, false, cond}
-use Prim.Native.Nat.{ℕ, zero, suc, ◌+◌, ◌/◌, ◌%◌, ◌≤◌, ◌<◌}
+use Prim.Native.Nat.{ℕ, zero, suc, ◌+◌, ◌*◌, ◌/◌, ◌%◌, ◌≤◌, ◌<◌}
 use native.Mathlib.Omega.{arith}
 use lib.ListN.{length, get_or, take, length-append}
 use lib.Dec.{ltb}
@@ -70,6 +70,10 @@ length_high v h g = ap length (spelling_high v h g)
 
 pub length_cons : (v : ℕ) (vs : List ℕ) → length (spellings (v ∷ vs)) ≡ length (spelling v) + length (spellings vs)
 length_cons v vs = length-append (spelling v) (spellings vs)
+
+pub spellings_short : (vs : List ℕ) → length (spellings vs) ≤ suc bytes_before * length vs
+spellings_short [] = omega arith
+spellings_short (v ∷ vs) = omega (arith, length_cons v vs, spelling_short v, spellings_short vs)
 
 pub header_values_length : (h : Header) → length (spellings (header_values h)) ≡ length (spelling h.edition) + length (spelling h.size)
 header_values_length h = omega (arith, length_cons h.edition (h.size ∷ []), length_cons h.size [])

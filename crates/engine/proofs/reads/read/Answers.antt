@@ -1,7 +1,6 @@
 -- `engine::reads::read` meets its contract: a block is found, moved and tallied. Assumes nothing.
 use mathlib.Core.Path.{sym, ◌∙◌}
 use native.Mathlib.Omega.{arith}
-use native.Mathlib.Nat.{max_comm}
 use Rattle.terms.proofs.Areas.{zeros_at}
 use Rattle.engine.proofs.reads.ReadLaws.{tallied_found}
 use Rattle.engine.proofs.Widths.{list_room, list_room_lem}
@@ -22,7 +21,7 @@ move_block-after-requires c =
     record {
       areas = c.requires.areas;
       keyed = c.requires.keyed;
-      somewhere = omega (arith, c.max-p.ensures);
+      somewhere = omega (arith, c.at_least_one-p.ensures);
       list_wide = omega (arith, find.auto, list_room_lem c.args.n c.requires.areas.within);
       found = find.ensures;
       scratch_wide = c.requires.scratch_wide;
@@ -31,7 +30,7 @@ move_block-after-requires c =
 
 pub returns-clause-tallied : goal.returns-clause-tallied
 returns-clause-tallied c rs held =
-    tallied_found _ _ _ _ _ rs _ _ _ c.requires.keyed (c.find-j.ensures rs held) c.tally_list.ensures.tallied (c.max-p.ensures ∙ max_comm c.args.priority 1)
+    tallied_found _ _ _ _ _ rs _ _ _ c.requires.keyed (c.find-j.ensures rs held) c.tally_list.ensures.tallied c.at_least_one-p.ensures
 
 pub returns-clause-summed : goal.returns-clause-summed
-returns-clause-summed c rs r ek ew held covered = c.move_block-after.ensures.summed rs r ek (ew ∙ max_comm 1 c.args.priority ∙ sym c.max-p.ensures) held covered
+returns-clause-summed c rs r ek ew held covered = c.move_block-after.ensures.summed rs r ek (ew ∙ sym c.at_least_one-p.ensures) held covered
